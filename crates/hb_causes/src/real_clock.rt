@@ -33,3 +33,16 @@ impl<R: rt::Clock> Clock for RealClock<R> {
         u64::try_from(since_1970.as_millis()).unwrap_or(u64::MAX)
     }
 }
+
+#[cfg(test)]
+mod tests {
+    use super::*;
+
+    // After September 2020, and before the year 2286.
+    #[test]
+    fn counts_milliseconds(rt: HostRuntime) {
+        let mut clock = RealClock::new(rt);
+        let now = clock.now();
+        assert!(rt; 1_600_000_000_000 < now && now < 10_000_000_000_000);
+    }
+}
