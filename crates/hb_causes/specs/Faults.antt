@@ -1,0 +1,10 @@
+-- How a count of faults moves.
+use Rattle.std.specs.Prelude.{ℕ, ◌+◌, ◌-◌, ◌^◌, ◌≤◌, min}
+
+-- the count rose, or stands at the last value of its type
+abbrev pub Rose : ℕ → ℕ → Type 0
+Rose before now = min (before + 1) (2 ^ 64 - 1) ≤ now
+
+-- one more, up to the last value of its type
+abbrev pub next : ℕ → ℕ
+next n = min (n + 1) (2 ^ 64 - 1)

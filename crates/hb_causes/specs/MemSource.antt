@@ -1,0 +1,21 @@
+-- A source in memory.
+use Rattle.std.specs.Prelude.{ℕ, min, List, length, drop}
+use Rattle.hb_causes.specs.Calls.{Calls, after_success, after_failure}
+
+-- the bytes that are left, how many move in one call at most, and the calls
+pub record MemSourceState : Type 0 where
+  pub left : List ℕ
+  pub most : ℕ
+  pub calls : Calls
+
+-- how many bytes a read into a buffer with this room moves
+abbrev pub read_count : MemSourceState → ℕ → ℕ
+read_count s room = min s.most (min (length s.left) room)
+
+-- after a read of n bytes
+abbrev pub after_read : ℕ → MemSourceState → MemSourceState
+after_read n s = record { left = drop n s.left; most = s.most; calls = after_success s.calls }
+
+-- after a read that failed
+abbrev pub after_failed_read : MemSourceState → MemSourceState
+after_failed_read s = record { left = s.left; most = s.most; calls = after_failure s.calls }

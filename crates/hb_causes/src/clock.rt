@@ -1,0 +1,12 @@
+//! What time it is.
+ghost use Rattle.std.specs.Prelude.{◌≡◌, ℕ, List, [], ◌∷◌, ◌++◌, Option, option_map};
+
+/// What gives moments, in milliseconds since 1970. It cannot fail, and it may go back.
+pub trait Clock {
+    /// The moments that it has given, oldest first, where it tells them.
+    ghost moments: { Self → Option (List ℕ) };
+
+    /// The moment that it is now.
+    fn now(&mut self) -> u64
+        ensures { moments self.new ≡ option_map (λ given. given ++ result ∷ []) (moments self.old) };
+}

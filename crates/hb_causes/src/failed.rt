@@ -1,0 +1,15 @@
+//! The one error of the outside.
+use std::error::Error;
+use std::fmt;
+
+/// A call to the outside failed. The count of faults of the object that was called rose.
+#[derive(Clone, Copy, Debug, PartialEq, Eq)]
+pub struct Failed;
+
+impl fmt::Display for Failed {
+    fn fmt<W: fmt::Write>(&self, f: &mut fmt::Formatter<W>) -> fmt::Result {
+        write!(f, "a call to the outside failed")
+    }
+}
+
+impl Error for Failed {}

@@ -1,0 +1,48 @@
+//! The system's clock.
+ghost use Rattle.std.specs.Prelude.{None};
+
+use crate::clock::Clock;
+use std::rt;
+use std::time::{SystemTime, UNIX_EPOCH};
+
+/// The system's clock. It doesn't tell the moments that it has given.
+#[derive(Drop)]
+pub struct RealClock<R> {
+    rt: R,
+}
+
+impl<R> RealClock<R> {
+    /// The clock of this runtime.
+    pub fn new(rt: R) -> RealClock<R> {
+        RealClock { rt }
+    }
+}
+
+impl<R: rt::Clock> Clock for RealClock<R> {
+    ghost moments = { λ _. None };
+
+    /// The milliseconds since 1970, up to the last value of a `u64`; 0 where the clock cannot be read or
+    /// stands before 1970.
+    fn now(&mut self) -> u64 {
+        let Ok(time) = SystemTime::now(&self.rt) else {
+            return 0;
+        };
+        let Ok(since_1970) = time.duration_since(UNIX_EPOCH) else {
+            return 0;
+        };
+        u64::try_from(since_1970.as_millis()).unwrap_or(u64::MAX)
+    }
+}
+
+#[cfg(test)]
+mod tests {
+    use super::*;
+
+    // After September 2020, and before the year 2286.
+    #[test]
+    fn counts_milliseconds(rt: HostRuntime) {
+        let mut clock = RealClock::new(rt);
+        let now = clock.now();
+        assert!(rt; 1_600_000_000_000 < now && now < 10_000_000_000_000);
+    }
+}
