@@ -1,4 +1,4 @@
-use Rattle.std.proofs.Common.{◌≡◌, ℕ, List, [], ◌∷◌, ◌⊎◌, inl, inr}
+use Rattle.std.proofs.Common.{ℕ, List, ◌∷◌, inl, inr}
 use Rattle.hb_grammar.specs.Either.{EitherOf}
 use Rattle.hb_grammar.specs.Grammar.{Follows}
 

@@ -1,6 +1,6 @@
 use Rattle.std.proofs.Common.{◌≡◌, ℕ, ◌<◌, ◌≤◌, ◌+◌, List, [], ◌∷◌, ◌++◌, length, take, drop, get_or, subst, sym, ap, ◌∙◌, arith}
 use Rattle.std.proofs.lemmas.List.{append_assoc, take_more, take_all, append-nil, take-append-drop, take-take, drop_more, length-take-le, get_or-take}
-use Rattle.hb_grammar.specs.Grammar.{IsViable, IsReach, IsFault, Follows, Refuses, IsLive}
+use Rattle.hb_grammar.specs.Grammar.{IsViable, IsFault, Follows, Refuses, IsLive}
 
 -- the grammar new has exactly what the grammar old has behind these bytes
 pub record Leaves (old : List ℕ → Type 0) (bytes : List ℕ) (new : List ℕ → Type 0) : Type 0 where

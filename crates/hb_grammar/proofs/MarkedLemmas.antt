@@ -1,4 +1,4 @@
-use Rattle.std.proofs.Common.{◌≡◌, ℕ, List, [], ◌∷◌, ◌++◌, refl, sym, ap, subst, ◌≢◌, ◌⊎◌, inl, inr}
+use Rattle.std.proofs.Common.{◌≡◌, ℕ, List, [], ◌∷◌, ◌++◌, sym, ap, subst, ◌≢◌, ◌⊎◌, inl, inr}
 use Rattle.hb_grammar.specs.Grammar.{Refuses, Follows}
 use Rattle.hb_grammar.specs.Marked.{Marked, Avoids}
 

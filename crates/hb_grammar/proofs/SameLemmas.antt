@@ -1,4 +1,4 @@
-use Rattle.std.proofs.Common.{ℕ, zero, suc, List, [], ◌∷◌, ◌++◌, take, ◌⊎◌, inl, inr}
+use Rattle.std.proofs.Common.{ℕ, zero, suc, List, ◌∷◌, ◌++◌, take, inl, inr}
 use Rattle.hb_grammar.specs.Grammar.{IsFault, Same}
 use Rattle.hb_grammar.specs.Joined.{Joined}
 use Rattle.hb_grammar.specs.Marked.{Marked, Avoids}

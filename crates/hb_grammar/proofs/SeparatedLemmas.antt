@@ -1,9 +1,8 @@
-use Rattle.std.proofs.Common.{◌≡◌, ℕ, zero, suc, ◌-◌, ◌+◌, ◌<◌, ◌≤◌, List, [], ◌∷◌, ◌++◌, refl, sym, subst, ◌⊎◌, inl, inr, arith, ◌≢◌}
+use Rattle.std.proofs.Common.{◌≡◌, ℕ, zero, suc, ◌-◌, ◌<◌, List, [], ◌∷◌, ◌++◌, refl, sym, subst, inl, inr, arith, ◌≢◌}
 use Rattle.hb_grammar.specs.Grammar.{Refuses, Follows}
 use Rattle.hb_grammar.specs.Joined.{Joined}
 use Rattle.hb_grammar.specs.JoinedLaws.{Joined-nil_first}
 use Rattle.hb_grammar.specs.Marked.{Marked, Avoids}
-use Rattle.hb_grammar.specs.Either.{EitherOf}
 use Rattle.hb_grammar.specs.Separated.{SeparatedFrom}
 use Rattle.hb_grammar.proofs.EitherLemmas.{Follows-EitherOf}
 use Rattle.hb_grammar.proofs.JoinedLemmas.{Follows-Joined_first, Refuses-Joined_first}

@@ -1,4 +1,4 @@
-use Rattle.std.proofs.Common.{◌≡◌, ℕ, ◌≤◌, List, [], ◌∷◌, length, true, refl, replicate, arith, suc, zero}
+use Rattle.std.proofs.Common.{◌≡◌, ℕ, ◌≤◌, [], true, refl, replicate, arith, suc, zero}
 use Rattle.std.proofs.lemmas.List.{length-replicate}
 use Rattle.hb_grammar.specs.Grammar.{IsLive, Refuses}
 use Rattle.hb_grammar.specs.declared.class.Class.{Class}

@@ -1,4 +1,4 @@
-use Rattle.std.proofs.Common.{◌≡◌, ℕ, ◌≤◌, List, Bool, true, refl, arith}
+use Rattle.std.proofs.Common.{true, refl, arith}
 use Rattle.hb_grammar.specs.Grammar.{Same}
 use Rattle.hb_grammar.specs.declared.class.Class.TheVariants.{Component}
 use Rattle.hb_grammar.specs.Class.{has}

@@ -129,3 +129,49 @@ impl Ord for Place {
         self.as_slice().cmp(other.as_slice())
     }
 }
+
+#[cfg(test)]
+mod tests {
+    use super::*;
+    use std::test::Fail;
+
+    #[test]
+    fn the_place_of_a_fault(rt: HostRuntime) {
+        let long = [b'a'; 256];
+        let table: [(&[u8], Option<usize>); 14] = [
+            (b"a", None),
+            (b"data/default/t/.regions/1", None),
+            (b"A-Z_0=9.x/...", None),
+            (b"a/.../b", None),
+            (&long[..255], None),
+            (b"a/a/a/a/a/a/a/a/a/a/a/a/a/a/a/a", None),
+            (b"", Some(0)),
+            (b"/a", Some(0)),
+            (b"a/./b", Some(3)),
+            (b"a/..", Some(4)),
+            (b"a//b", Some(2)),
+            (b"a/b c", Some(3)),
+            (&long, Some(255)),
+            (b"a/a/a/a/a/a/a/a/a/a/a/a/a/a/a/a/a", Some(31)),
+        ];
+        for (text, fault) in table {
+            let found = match Place::parse(text) {
+                Ok(_) => None,
+                Err(bad) => Some(bad.0),
+            };
+            assert_eq!(rt; found, fault, "at {} bytes", text.len());
+        }
+    }
+
+    #[test]
+    fn a_place_is_read_copied_and_written(rt: HostRuntime) -> Result<(), Fail> {
+        let place = Place::read(rt.alloc(), b"a/b")?;
+        let copy = place.copy()?;
+        assert!(rt; place == copy);
+        assert!(rt; place < Place::read(rt.alloc(), b"a0b")?);
+        let mut out = Blob::copy_of(rt.alloc(), b">")?;
+        copy.write(&mut out)?;
+        assert_eq!(rt; out.as_slice(), b">a/b".as_slice());
+        Ok(())
+    }
+}

@@ -121,3 +121,44 @@ impl Ord for SnapName {
         self.as_slice().cmp(other.as_slice())
     }
 }
+
+#[cfg(test)]
+mod tests {
+    use super::*;
+    use std::test::Fail;
+
+    #[test]
+    fn the_place_of_a_fault(rt: HostRuntime) {
+        let long = [b'a'; 101];
+        let table: [(&[u8], Option<usize>); 9] = [
+            (b"t", None),
+            (b"_", None),
+            (b"9a.-_Z", None),
+            (&long[..100], None),
+            (b"", Some(0)),
+            (b"-t", Some(0)),
+            (b".t", Some(0)),
+            (b"a=b", Some(1)),
+            (&long, Some(100)),
+        ];
+        for (text, fault) in table {
+            let found = match SnapName::parse(text) {
+                Ok(_) => None,
+                Err(bad) => Some(bad.0),
+            };
+            assert_eq!(rt; found, fault, "at {} bytes", text.len());
+        }
+    }
+
+    #[test]
+    fn a_name_is_read_copied_and_written(rt: HostRuntime) -> Result<(), Fail> {
+        let name = SnapName::read(rt.alloc(), b"s1")?;
+        let copy = name.copy()?;
+        assert!(rt; name == copy);
+        assert!(rt; name < SnapName::read(rt.alloc(), b"s2")?);
+        let mut out = Blob::copy_of(rt.alloc(), b">")?;
+        copy.write(&mut out)?;
+        assert_eq!(rt; out.as_slice(), b">s1".as_slice());
+        Ok(())
+    }
+}
