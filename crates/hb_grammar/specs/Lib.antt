@@ -1,0 +1,10 @@
+pub mod Grammar
+pub mod Class
+pub mod Run
+pub mod RunLaws
+pub mod Joined
+pub mod JoinedLaws
+pub mod Marked
+pub mod Either
+pub mod Separated
+pub mod SeparatedLaws

@@ -1,0 +1,24 @@
+//! Grammars of byte strings, read one byte at a time, and the place where a text leaves its grammar.
+//!
+//! A grammar is a value, and what is left of it after a byte is a value of the same type. So the
+//! state of a reader is itself a grammar, and one [`scan`] serves them all: it takes no memory, it
+//! answers `Ok` exactly for the strings of the grammar, and else the length of the longest prefix
+//! that some string of the grammar begins with.
+//!
+//! A kind of text is put together from the types of this crate. Its plain definition stands in
+//! `specs/`, and the laws of `Same` show that both have the same strings.
+#![tactic(auto)]
+
+pub mod class;
+pub mod exactly;
+pub mod grammar;
+pub mod run;
+pub mod separated;
+pub mod then;
+
+pub use class::Class;
+pub use exactly::Exactly;
+pub use grammar::{Closed, Fault, Grammar, scan};
+pub use run::Run;
+pub use separated::Separated;
+pub use then::Then;

@@ -1,0 +1,103 @@
+use Rattle.std.proofs.Common.{◌≡◌, ℕ, ◌≤◌, suc, zero, List, [], ◌∷◌, ◌++◌, length, Bool, true, false, not, ◌&&◌, ◌||◌, nat_le, nat_eq, refl, sym, arith, inl, inr}
+use Rattle.std.proofs.lemmas.List.{append_assoc}
+use Rattle.std.specs.List.{list_all, join_with_byte, AllByRecursion}
+use Rattle.std.proofs.lemmas.Bool.Decides.{nat_tests}
+use Rattle.hb_grammar.specs.declared.class.Class.TheVariants.{Component}
+use Rattle.hb_grammar.specs.Class.{has, AllIn}
+use Rattle.hb_grammar.specs.Separated.{SeparatedOf}
+use Rattle.hb_names.specs.Component.{AllDots, IsComponent}
+use Rattle.hb_names.specs.Place.{IsPlace}
+
+-- whether the bytes are dots alone
+abbrev pub all_dots : List ℕ → Bool
+all_dots [] = true
+all_dots (byte ∷ bytes) = nat_eq byte 46 && all_dots bytes
+
+-- whether the bytes are a component, as a test that computes where they are known
+abbrev pub is_component : List ℕ → Bool
+is_component bytes = nat_le 1 (length bytes) && nat_le (length bytes) 255 && list_all (has Component) bytes && (nat_le 3 (length bytes) || not (all_dots bytes))
+
+-- whether components, joined, are a place, as such a test
+abbrev pub is_path : List (List ℕ) → Bool
+is_path components = nat_le 1 (length components) && nat_le (length components) 16 && list_all is_component components
+
+-- both of two tests hold where they hold together
+and_first : (a b : Bool) → (a && b) ≡ true → a ≡ true
+and_first true b e = refl
+and_first false b e = e
+
+and_second : (a b : Bool) → (a && b) ≡ true → b ≡ true
+and_second true b e = e
+and_second false b e = cc
+
+-- what is dots alone passes the test
+all_dots-AllDots : (bytes : List ℕ) → AllDots bytes → all_dots bytes ≡ true
+all_dots-AllDots [] all = refl
+all_dots-AllDots (byte ∷ bytes) all =
+    let first : byte ≡ 46 = all.0 in let rest = all_dots-AllDots bytes all.1 in grind (arith, nat_tests)
+
+-- bytes that all pass the class's test are in the class
+AllIn-list_all : (bytes : List ℕ) → list_all (has Component) bytes ≡ true → AllIn Component bytes
+AllIn-list_all [] e = tt
+AllIn-list_all (byte ∷ bytes) e = (
+  and_first (has Component byte) (list_all (has Component) bytes) e,
+  AllIn-list_all bytes (and_second (has Component byte) (list_all (has Component) bytes) e),
+)
+
+-- bytes that pass the test are a component
+pub IsComponent-is_component : (bytes : List ℕ) → is_component bytes ≡ true → IsComponent bytes
+IsComponent-is_component bytes e =
+    let long : Bool = nat_le 3 (length bytes) || not (all_dots bytes) in
+    let e1 : (nat_le 1 (length bytes) && nat_le (length bytes) 255 && list_all (has Component) bytes) ≡ true = and_first (nat_le 1 (length bytes) && nat_le (length bytes) 255 && list_all (has Component) bytes) long e in
+    let e2 : (nat_le 1 (length bytes) && nat_le (length bytes) 255) ≡ true = and_first (nat_le 1 (length bytes) && nat_le (length bytes) 255) (list_all (has Component) bytes) e1 in
+    let e3 : nat_le 1 (length bytes) ≡ true = and_first (nat_le 1 (length bytes)) (nat_le (length bytes) 255) e2 in
+    let e4 : nat_le (length bytes) 255 ≡ true = and_second (nat_le 1 (length bytes)) (nat_le (length bytes) 255) e2 in
+    let e5 : long ≡ true = and_second (nat_le 1 (length bytes) && nat_le (length bytes) 255 && list_all (has Component) bytes) long e in
+    record {
+      least = grind (arith, nat_tests);
+      most = grind (arith, nat_tests);
+      each = AllIn-list_all bytes (and_second (nat_le 1 (length bytes) && nat_le (length bytes) 255) (list_all (has Component) bytes) e1);
+      not_dots = λ all. let dots = all_dots-AllDots bytes all in grind (arith, nat_tests);
+    }
+
+-- a place of fewer components is one of more
+SeparatedOf-suc : (inner : List ℕ → Type 0) (mark more : ℕ) (bytes : List ℕ) → inner bytes → SeparatedOf inner mark more bytes
+SeparatedOf-suc inner mark zero bytes spelled = spelled
+SeparatedOf-suc inner mark (suc more) bytes spelled = inl spelled
+
+-- strings of a grammar, joined by a mark, are a row of them
+pub SeparatedOf-join_with_byte : (inner : List ℕ → Type 0) (mark more : ℕ) (part : List ℕ) (parts : List (List ℕ)) →
+    length parts ≤ more → inner part → AllByRecursion inner parts → SeparatedOf inner mark more (join_with_byte mark (part ∷ parts))
+SeparatedOf-join_with_byte inner mark more part [] short first rest = SeparatedOf-suc inner mark more part first
+SeparatedOf-join_with_byte inner mark zero part (next ∷ parts) short first rest = absurd (omega arith)
+SeparatedOf-join_with_byte inner mark (suc more) part (next ∷ parts) short first rest = inr (record {
+  front = part ++ mark ∷ [];
+  back = join_with_byte mark (next ∷ parts);
+  whole = sym (append_assoc part (mark ∷ []) (join_with_byte mark (next ∷ parts)));
+  in_first = record { front = part; whole = refl; in_inner = first };
+  in_second = SeparatedOf-join_with_byte inner mark more next parts (omega arith) rest.0 rest.1;
+})
+
+-- components that pass the test
+All-list_all : (components : List (List ℕ)) → list_all is_component components ≡ true → AllByRecursion IsComponent components
+All-list_all [] e = tt
+All-list_all (component ∷ components) e = (
+  IsComponent-is_component component (and_first (is_component component) (list_all is_component components) e),
+  All-list_all components (and_second (is_component component) (list_all is_component components) e),
+)
+
+-- 1 to 16 components, joined by slashes, are a place
+pub IsPlace-join_with_byte : (components : List (List ℕ)) → 1 ≤ length components → length components ≤ 16 →
+    AllByRecursion IsComponent components → IsPlace (join_with_byte 47 components)
+IsPlace-join_with_byte [] least most each = absurd (omega arith)
+IsPlace-join_with_byte (first ∷ rest) least most each =
+    SeparatedOf-join_with_byte IsComponent 47 15 first rest (omega arith) each.0 each.1
+
+-- components that pass the test are a place, joined by slashes: for known components the test is proved by refl
+pub IsPlace-is_path : (components : List (List ℕ)) → is_path components ≡ true → IsPlace (join_with_byte 47 components)
+IsPlace-is_path components e =
+    let e1 : (nat_le 1 (length components) && nat_le (length components) 16) ≡ true = and_first (nat_le 1 (length components) && nat_le (length components) 16) (list_all is_component components) e in
+    let e2 : nat_le 1 (length components) ≡ true = and_first (nat_le 1 (length components)) (nat_le (length components) 16) e1 in
+    let e3 : nat_le (length components) 16 ≡ true = and_second (nat_le 1 (length components)) (nat_le (length components) 16) e1 in
+    IsPlace-join_with_byte components (grind (arith, nat_tests)) (grind (arith, nat_tests))
+    (All-list_all components (and_second (nat_le 1 (length components) && nat_le (length components) 16) (list_all is_component components) e))

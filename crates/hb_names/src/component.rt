@@ -1,0 +1,59 @@
+//! The grammar of a component of a place.
+
+ghost use Rattle.std.specs.Prelude.{◌≡◌, ◌≤◌, true};
+ghost use Rattle.hb_grammar.specs.Grammar.{Same};
+ghost use Rattle.hb_names.specs.Component.{ComponentAfter, IsComponent};
+
+use hb_grammar::{Class, Grammar};
+
+/// 1 to 255 letters, digits and `_ - . =`, but neither `.` nor `..`.
+#[derive(Clone, Copy)]
+pub struct ComponentGrammar {
+    read: usize,
+    dots: bool,
+    ghost within: { read ≤ 255 },
+}
+
+impl ComponentGrammar {
+    /// The grammar of a component, before its first byte.
+    pub fn new() -> ComponentGrammar
+        ensures { Same (ComponentAfter result.read result.dots) IsComponent }
+    {
+        ComponentGrammar {
+            read: 0,
+            dots: true,
+        }
+    }
+}
+
+impl Grammar for ComponentGrammar {
+    ghost use Rattle.hb_names.specs.ComponentLaws.{IsLive-ComponentAfter};
+
+    ghost spells = { λ component. ComponentAfter component.read component.dots };
+
+    ghost completes = { λ component. IsLive-ComponentAfter component.read component.dots component.within };
+
+    fn step(self, byte: u8) -> Option<ComponentGrammar> {
+        if self.read == 255 {
+            return None;
+        }
+        if !Class::Component.has(byte) {
+            return None;
+        }
+        if byte == b'.' {
+            Some(ComponentGrammar {
+                read: self.read + 1,
+                dots: self.dots,
+            })
+        } else {
+            Some(ComponentGrammar {
+                read: self.read + 1,
+                dots: false,
+            })
+        }
+    }
+
+    fn is_whole(self) -> bool {
+        self.read > 0 && (!self.dots || self.read > 2)
+    }
+}

@@ -1,0 +1,16 @@
+//! The names of what the store keeps, each a text of a grammar of its own.
+//!
+//! A value of a type of this crate has a valid text: a contract sees it as its bytes, and its type
+//! keeps the grammar. Each type has a `parse`, which takes no memory and gives the part of the input
+//! or the place where it leaves the grammar, a `read` for the owned value, and a `write`.
+#![tactic(auto)]
+
+pub mod component;
+pub mod error;
+pub mod place;
+pub mod qualifier;
+pub mod snap_name;
+
+pub use error::{BadName, NameError};
+pub use place::Place;
+pub use snap_name::SnapName;

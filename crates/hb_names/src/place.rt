@@ -1,0 +1,177 @@
+//! Places of files.
+
+ghost use Rattle.std.specs.Prelude.{◌≡◌, ◌++◌, IfOk, IfErr, OnOk, OnErr, nat_eq, Some, refl};
+ghost use Rattle.std.specs.Cmp.{partial_equiv_from_equiv};
+ghost use Rattle.std.specs.Cmp.Lexicographic.{pointwise, slice_cmp, nat_list_eq_equiv, nat_list_cmp_total, texts_ties, texts_po};
+ghost use Rattle.std.specs.Ordering.{nat_cmp};
+ghost use Rattle.hb_grammar.specs.Grammar.{Same, IsFault};
+ghost use Rattle.hb_names.specs.NameError.{IsRefusal};
+ghost use Rattle.hb_names.specs.Place.{IsPlace};
+
+use crate::component::ComponentGrammar;
+use crate::error::{BadName, NameError};
+use hb_grammar::{Grammar, Separated, scan};
+use hb_wire::{Blob, Copied, NoMemory};
+use std::alloc::Global;
+use std::cmp::Ordering;
+use std::marker::Model;
+
+type PlaceGrammar = Separated<ComponentGrammar>;
+
+/// Where a file stands: 1 to 16 components joined by `/`. A component has 1 to 255 letters, digits and
+/// `_ - . =`, and is neither `.` nor `..`. Places are ordered as their bytes.
+#[derive(Debug, Drop)]
+pub struct Place {
+    text: Blob,
+}
+
+impl Model for Place {
+    ghost use Rattle.std.specs.Prelude.{List, ℕ};
+    ghost use Rattle.hb_names.specs.Place.{IsPlace};
+
+    ghost Value = { List ℕ };
+
+    ghost view = { λ place. place.text };
+
+    ghost invariant = { λ place. IsPlace place.text };
+}
+
+fn place_grammar() -> PlaceGrammar
+    ensures { Same (⟦<PlaceGrammar as Grammar>⟧.spells result) IsPlace }
+{
+    Separated::new(ComponentGrammar::new(), b'/', 15)
+}
+
+impl Place {
+    /// The place that the bytes are: the input itself. It takes no memory.
+    pub fn parse(bytes: &[u8]) -> Result<&[u8], BadName>
+        ensures same { IfOk result (λ place. place.now ≡ bytes.now) }
+        ensures found { IfOk result (λ _. IsPlace bytes.now) }
+        ensures fault { IfErr result (λ bad. IsFault IsPlace bytes.now bad.0) }
+    {
+        match scan(place_grammar(), bytes) {
+            Ok(()) => Ok(bytes),
+            Err(fault) => Err(BadName(fault.0)),
+        }
+    }
+
+    /// The place that the bytes are, with a copy of them.
+    pub fn read(alloc: Global, bytes: &[u8]) -> Result<Place, NameError>
+        ensures same { IfOk result (λ place. place ≡ bytes.now) }
+        ensures found { IfOk result (λ _. IsPlace bytes.now) }
+        ensures refused { IfErr result (IsRefusal IsPlace bytes.now) }
+    {
+        let place = Place::parse(bytes)?;
+        Ok(Place {
+            text: Blob::copy_of(alloc, place)?,
+        })
+    }
+
+    /// Adds the place's bytes at the end of `out`. Without memory for them nothing changes.
+    pub fn write(&self, out: &mut Blob) -> Result<(), NoMemory>
+        ensures ok { OnOk result (out.new ≡ out.old ++ self.now) }
+        ensures err { OnErr result (out.new ≡ out.old) }
+    {
+        out.add(self.text.as_slice())
+    }
+
+    /// The place's bytes.
+    pub fn as_slice(&self) -> &[u8]
+        ensures bytes { result.now ≡ self.now }
+        ensures valid { IsPlace self.now }
+    {
+        self.text.as_slice()
+    }
+}
+
+impl Copied for Place {
+    fn copy(&self) -> Result<Place, NoMemory> {
+        Ok(Place {
+            text: self.text.copy()?,
+        })
+    }
+}
+
+impl PartialEq for Place {
+    ghost eq = { pointwise nat_eq };
+
+    ghost laws = { partial_equiv_from_equiv nat_list_eq_equiv };
+
+    fn eq(&self, other: &Place) -> bool {
+        self.as_slice() == other.as_slice()
+    }
+}
+
+impl Eq for Place {
+    ghost laws = { nat_list_eq_equiv };
+}
+
+impl PartialOrd for Place {
+    ghost partial_cmp = { λ x y. Some (slice_cmp nat_cmp x y) };
+
+    ghost laws = { texts_po };
+
+    fn partial_cmp(&self, other: &Place) -> Option<Ordering> {
+        Some(self.cmp(other))
+    }
+}
+
+impl Ord for Place {
+    ghost cmp = { slice_cmp nat_cmp };
+
+    ghost total = { nat_list_cmp_total };
+
+    ghost matches_partial_cmp = { λ x y. refl };
+
+    ghost matches_eq = { texts_ties };
+
+    fn cmp(&self, other: &Place) -> Ordering {
+        self.as_slice().cmp(other.as_slice())
+    }
+}
+
+#[cfg(test)]
+mod tests {
+    use super::*;
+    use std::test::Fail;
+
+    #[test]
+    fn the_place_of_a_fault(rt: HostRuntime) {
+        let long = [b'a'; 256];
+        let table: [(&[u8], Option<usize>); 14] = [
+            (b"a", None),
+            (b"data/default/t/.regions/1", None),
+            (b"A-Z_0=9.x/...", None),
+            (b"a/.../b", None),
+            (&long[..255], None),
+            (b"a/a/a/a/a/a/a/a/a/a/a/a/a/a/a/a", None),
+            (b"", Some(0)),
+            (b"/a", Some(0)),
+            (b"a/./b", Some(3)),
+            (b"a/..", Some(4)),
+            (b"a//b", Some(2)),
+            (b"a/b c", Some(3)),
+            (&long, Some(255)),
+            (b"a/a/a/a/a/a/a/a/a/a/a/a/a/a/a/a/a", Some(31)),
+        ];
+        for (text, fault) in table {
+            let found = match Place::parse(text) {
+                Ok(_) => None,
+                Err(bad) => Some(bad.0),
+            };
+            assert_eq!(rt; found, fault, "at {} bytes", text.len());
+        }
+    }
+
+    #[test]
+    fn a_place_is_read_copied_and_written(rt: HostRuntime) -> Result<(), Fail> {
+        let place = Place::read(rt.alloc(), b"a/b")?;
+        let copy = place.copy()?;
+        assert!(rt; place == copy);
+        assert!(rt; place < Place::read(rt.alloc(), b"a0b")?);
+        let mut out = Blob::copy_of(rt.alloc(), b">")?;
+        copy.write(&mut out)?;
+        assert_eq!(rt; out.as_slice(), b">a/b".as_slice());
+        Ok(())
+    }
+}
