@@ -1,5 +1,5 @@
 -- A sink in memory.
-use Rattle.std.specs.Prelude.{ℕ, ◌-◌, min, List, ◌++◌, length, take, Bool, ◌==◌, ◌||◌}
+use Rattle.std.specs.Prelude.{ℕ, ◌-◌, min, List, ◌++◌, length, Bool, ◌==◌, ◌||◌}
 use Rattle.hb_causes.specs.Calls.{Calls, is_due, after_success, after_failure}
 
 -- the bytes written, how many it takes in all and in one call at most, and the calls
