@@ -29,3 +29,36 @@ pub use source::Source;
 pub use std_sink::StdSink;
 pub use std_source::StdSource;
 pub use ticker::Ticker;
+
+#[cfg(test)]
+mod tests {
+    use super::*;
+    use std::test::Fail;
+    use std::thread;
+
+    // Each form may go to another thread.
+    #[test]
+    fn crosses_threads(rt: HostRuntime) -> Result<(), Fail> {
+        let alloc = rt.alloc();
+        let mut source = MemSource::new(Vec::from_slice(alloc, b"ab")?, 2, Vec::new(alloc));
+        let mut sink = MemSink::new(alloc, 2, 2, Vec::new(alloc))?;
+        let mut clock = Ticker::new(ListClock::new(Vec::new(alloc)), Some(3));
+        let (moved, moment) = thread::join(
+            &rt,
+            move || {
+                let mut buf = [0; 2];
+                (source.read(&mut buf), sink.write(b"cd"))
+            },
+            || clock.now(),
+        );
+        assert_eq!(rt; moved, (Ok(2), Ok(2)));
+        assert_eq!(rt; moment, 3);
+        let (told, sent) = thread::join(
+            &rt,
+            move || clock.into_inner().now(),
+            move || StdSink::new(rt).faults() + StdSource::new(rt).faults(),
+        );
+        assert_eq!(rt; (told, sent), (0, 0));
+        Ok(())
+    }
+}

@@ -56,6 +56,7 @@ impl<C> Ticker<C> {
     }
 }
 
+#[tactic(auto, using(crate::proofs::Saturating::counted_product))]
 impl<C: Clock> Clock for Ticker<C> {
     ghost moments = { λ t. told_moments t.tick t.given (C.moments t.inner) };
 
