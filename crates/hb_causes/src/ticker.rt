@@ -1,5 +1,6 @@
 //! A clock that ticks, or asks another clock.
-ghost use Rattle.std.specs.Prelude.{◌≡◌, ◌+◌, [], ◌∷◌, ◌++◌, length, option_map, IfSome, OnSome, IfNone};
+ghost use Rattle.std.specs.Prelude.{◌≡◌, ◌+◌, [], length, IfSome, OnSome, IfNone};
+ghost use Rattle.hb_causes.specs.Clock.{with_moment};
 ghost use Rattle.hb_causes.specs.Ticker.{tick_at, told_moments, after_tick, after_asking};
 
 use crate::clock::Clock;
@@ -64,7 +65,7 @@ impl<C: Clock> Clock for Ticker<C> {
     fn now(&mut self) -> u64
         ensures ticks { IfSome self.old.tick (λ tick. result ≡ tick_at tick (length self.old.given + 1)) }
         ensures after { OnSome self.old.tick (self.new ≡ after_tick result self.old) }
-        ensures asks { IfNone self.old.tick (C.moments self.new.inner ≡ option_map (λ given. given ++ result ∷ []) (C.moments self.old.inner)) }
+        ensures asks { IfNone self.old.tick (C.moments self.new.inner ≡ with_moment result (C.moments self.old.inner)) }
         ensures same { IfNone self.old.tick (self.new ≡ after_asking self.new.inner self.old) }
     {
         let Some(tick) = self.tick else {
