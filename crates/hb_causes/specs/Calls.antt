@@ -9,6 +9,10 @@ pub record Calls : Type 0 where
   pub made : ℕ
   pub faults : ℕ
 
+-- before the first call
+abbrev pub no_calls : List ℕ → Calls
+no_calls fails = record { fails = fails; made = 0; faults = 0 }
+
 -- whether the next call is one of those that fail
 abbrev pub is_due : Calls → Bool
 is_due c = list_any (λ n. n == next c.made) c.fails

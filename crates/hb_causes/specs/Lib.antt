@@ -1,5 +1,9 @@
 pub mod Calls
+pub mod Clock
 pub mod Faults
+pub mod ListClock
 pub mod MemSink
 pub mod MemSource
+pub mod Sink
 pub mod Source
+pub mod Ticker

@@ -1,6 +1,6 @@
 -- A sink in memory.
-use Rattle.std.specs.Prelude.{ℕ, ◌-◌, min, List, ◌++◌, length, take, Bool, ◌==◌, ◌||◌}
-use Rattle.hb_causes.specs.Calls.{Calls, is_due, after_success, after_failure}
+use Rattle.std.specs.Prelude.{ℕ, ◌-◌, min, List, [], ◌++◌, length, Bool, ◌==◌, ◌||◌}
+use Rattle.hb_causes.specs.Calls.{Calls, no_calls, is_due, after_success, after_failure}
 
 -- the bytes written, how many it takes in all and in one call at most, and the calls
 pub record MemSinkState : Type 0 where
@@ -8,6 +8,10 @@ pub record MemSinkState : Type 0 where
   pub room : ℕ
   pub most : ℕ
   pub calls : Calls
+
+-- a sink that nothing was written to, with this room, this many bytes a call at most, and these failing calls
+abbrev pub new_sink : ℕ → ℕ → List ℕ → MemSinkState
+new_sink room most fails = record { written = []; room = room; most = most; calls = no_calls fails }
 
 -- a write fails where its number is listed, and where the sink is full
 abbrev pub is_refusing : MemSinkState → Bool

@@ -1,6 +1,6 @@
 //! The calls of a form in memory: which of them fail, and how many were made.
 ghost use Rattle.std.specs.Prelude.{◌≡◌, ◌≤◌};
-ghost use Rattle.hb_causes.specs.Calls.{is_due, after_success, after_failure};
+ghost use Rattle.hb_causes.specs.Calls.{no_calls, is_due, after_success, after_failure};
 
 use std::marker::Model;
 
@@ -22,7 +22,7 @@ impl Model for CallLog {
 
 impl CallLog {
     pub(crate) fn new(fails: Vec<u64>) -> CallLog
-        ensures { result ≡ record { fails = fails.items; made = 0; faults = 0 } }
+        ensures { result ≡ no_calls fails.items }
     {
         CallLog {
             fails,

@@ -1,5 +1,6 @@
 //! What time it is.
-ghost use Rattle.std.specs.Prelude.{◌≡◌, ℕ, List, [], ◌∷◌, ◌++◌, Option, option_map};
+ghost use Rattle.std.specs.Prelude.{◌≡◌, ℕ, List, Option};
+ghost use Rattle.hb_causes.specs.Clock.{with_moment};
 
 /// What gives moments, in milliseconds since 1970. It cannot fail, and it may go back.
 pub trait Clock {
@@ -8,5 +9,5 @@ pub trait Clock {
 
     /// The moment that it is now.
     fn now(&mut self) -> u64
-        ensures { moments self.new ≡ option_map (λ given. given ++ result ∷ []) (moments self.old) };
+        ensures { moments self.new ≡ with_moment result (moments self.old) };
 }

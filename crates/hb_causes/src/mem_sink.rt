@@ -1,6 +1,6 @@
 //! A sink in memory.
-ghost use Rattle.std.specs.Prelude.{◌≡◌, ◌<◌, ◌≤◌, [], length, take, Some, is_err, IfOk, OnErr};
-ghost use Rattle.hb_causes.specs.MemSink.{is_refusing, write_count, after_write, after_failed_write};
+ghost use Rattle.std.specs.Prelude.{◌≡◌, ◌<◌, ◌≤◌, length, take, Some, is_err, IfOk, OnErr};
+ghost use Rattle.hb_causes.specs.MemSink.{new_sink, is_refusing, write_count, after_write, after_failed_write};
 
 use crate::calls::CallLog;
 use crate::failed::Failed;
@@ -39,7 +39,7 @@ impl MemSink {
         fails: Vec<u64>,
     ) -> Result<MemSink, AllocError>
         requires { 0 < most }
-        ensures { IfOk result (λ s. s ≡ record { written = []; room = room; most = most; calls = record { fails = fails.items; made = 0; faults = 0 } }) }
+        ensures { IfOk result (λ s. s ≡ new_sink room most fails.items) }
     {
         Ok(MemSink {
             bytes: Vec::with_capacity(alloc, room)?,

@@ -2,7 +2,7 @@
 ghost use Rattle.std.specs.Prelude.{◌≡◌, ◌<◌, ◌≤◌, [], length, Some, Ok, is_err, IfOk, OnErr};
 ghost use Rattle.hb_causes.specs.Source.{Moves};
 ghost use Rattle.hb_causes.specs.Calls.{is_due};
-ghost use Rattle.hb_causes.specs.MemSource.{read_count, after_read, after_failed_read};
+ghost use Rattle.hb_causes.specs.MemSource.{new_source, read_count, after_read, after_failed_read};
 
 use crate::calls::CallLog;
 use crate::failed::Failed;
@@ -35,7 +35,7 @@ impl MemSource {
     /// numbers stand in `fails` fail.
     pub fn new(bytes: Vec<u8>, most: usize, fails: Vec<u64>) -> MemSource
         requires { 0 < most }
-        ensures { result ≡ record { left = bytes.items; most = most; calls = record { fails = fails.items; made = 0; faults = 0 } } }
+        ensures { result ≡ new_source bytes.items most fails.items }
     {
         MemSource {
             bytes,

@@ -1,19 +1,29 @@
 //! The system's clock.
-ghost use Rattle.std.specs.Prelude.{None};
+ghost use Rattle.std.specs.Prelude.{◌≡◌, None};
 
 use crate::clock::Clock;
+use std::marker::Model;
 use std::rt;
 use std::time::{SystemTime, UNIX_EPOCH};
 
-/// The system's clock. It doesn't tell the moments that it has given.
+/// The system's clock. It doesn't tell the moments that it has given; a contract sees the runtime that it
+/// asks.
 #[derive(Drop)]
 pub struct RealClock<R> {
     rt: R,
 }
 
+impl<R> Model for RealClock<R> {
+    ghost Value = { R };
+
+    ghost view = { λ c. c.rt };
+}
+
 impl<R> RealClock<R> {
     /// The clock of this runtime.
-    pub fn new(rt: R) -> RealClock<R> {
+    pub fn new(rt: R) -> RealClock<R>
+        ensures { result ≡ rt }
+    {
         RealClock { rt }
     }
 }

@@ -1,6 +1,7 @@
 //! Where bytes go to.
-ghost use Rattle.std.specs.Prelude.{◌≡◌, ◌<◌, ◌≤◌, ℕ, List, ◌++◌, length, take, Option, IfOk, OnErr, option_map};
+ghost use Rattle.std.specs.Prelude.{◌≡◌, ◌<◌, ◌≤◌, ℕ, List, length, take, Option, IfOk, OnErr};
 ghost use Rattle.hb_causes.specs.Faults.{Rose};
+ghost use Rattle.hb_causes.specs.Sink.{with_bytes};
 
 use crate::failed::Failed;
 
@@ -17,7 +18,7 @@ pub trait Sink {
     fn write(&mut self, bytes: &[u8]) -> Result<usize, Failed>
         ensures within { IfOk result (λ n. n ≤ length bytes.now) }
         ensures some { 0 < length bytes.now → IfOk result (λ n. 0 < n) }
-        ensures added { IfOk result (λ n. written self.new ≡ option_map (λ sent. sent ++ take n bytes.now) (written self.old)) }
+        ensures added { IfOk result (λ n. written self.new ≡ with_bytes (take n bytes.now) (written self.old)) }
 
         ensures failed { OnErr result (written self.new ≡ written self.old) }
         ensures rose { OnErr result (Rose (faults self.old) (faults self.new)) }

@@ -38,7 +38,7 @@ impl<R: Print> Sink for StdSink<R> {
     ghost faults = { λ s. s };
 
     /// Writes once, with no buffer: what it takes is handed to the system. A system that takes nothing
-    /// of a piece that is not empty has failed.
+    /// of a piece that is not empty has failed. No clause says what the system does with the bytes.
     fn write(&mut self, bytes: &[u8]) -> Result<usize, Failed>
         ensures within { IfOk result (λ n. n ≤ length bytes.now) }
         ensures some { 0 < length bytes.now → IfOk result (λ n. 0 < n) }

@@ -37,7 +37,7 @@ impl<R: Input> Source for StdSource<R> {
 
     ghost faults = { λ s. s };
 
-    /// Reads once from the system.
+    /// Reads once from the system. No clause says which bytes the system gives.
     fn read(&mut self, buf: &mut [u8]) -> Result<usize, Failed>
         ensures within { IfOk result (λ n. n ≤ length buf.old) }
         ensures later { self.old ≤ self.new }
