@@ -82,6 +82,22 @@ impl Place {
     {
         self.text.as_slice()
     }
+
+    /// The byte string that holds the place's bytes.
+    pub fn as_blob(&self) -> &Blob
+        ensures bytes { result.now ≡ self.now }
+        ensures valid { IsPlace self.now }
+    {
+        &self.text
+    }
+
+    /// The byte string that holds the place's bytes. It takes no memory.
+    pub fn into_blob(self) -> Blob
+        ensures bytes { result ≡ self }
+        ensures valid { IsPlace self }
+    {
+        self.text
+    }
 }
 
 impl Copied for Place {
