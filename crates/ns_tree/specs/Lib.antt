@@ -1,0 +1,4 @@
+pub mod Coded
+pub mod Places
+pub mod Tree
+pub mod MemStore

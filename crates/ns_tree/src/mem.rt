@@ -1,0 +1,150 @@
+//! A store in memory.
+ghost use Rattle.std.specs.Prelude.{◌≡◌, ◌≤◌, ◌⊎◌, ◌↔◌, Some, IfOk, IfErr, IsErrOf, IsTrue, option_copied};
+ghost use Rattle.ns_tree.specs.MemStore.{is_failing_read, after_read};
+ghost use Rattle.ns_tree.specs.Tree.{listing};
+
+use crate::namespace::{Namespace, NsError};
+use crate::tree::Tree;
+use hb_names::Place;
+use hb_wire::Items;
+use std::marker::Model;
+
+/// Keeps its tree in memory and tells it. The calls that are listed fail, by their numbers: writing and
+/// reading calls are each counted from 1. A writing call that fails may still take effect.
+#[derive(Drop)]
+pub struct MemNs {
+    tree: Tree,
+    writes: Items<(u64, bool)>,
+    reads: Items<u64>,
+    written: u64,
+    read: u64,
+    faults: u64,
+}
+
+impl Model for MemNs {
+    ghost use Rattle.ns_tree.specs.MemStore.{MemStore, mem_store_code};
+
+    ghost Value = { MemStore };
+
+    ghost coded = { mem_store_code };
+
+    ghost view = { λ m. record { tree = m.tree; writes = m.writes; reads = m.reads; written = m.written; read = m.read; faults = m.faults } };
+}
+
+impl MemNs {
+    /// A store of these files. `writes` has the numbers of the writing calls that fail, and whether each
+    /// takes effect: of several pairs with one number the first counts. `reads` has those of the
+    /// reading calls that fail.
+    pub fn new(tree: Tree, writes: Items<(u64, bool)>, reads: Items<u64>) -> MemNs
+        ensures { result ≡ record { tree = tree; writes = writes; reads = reads; written = 0; read = 0; faults = 0 } }
+    {
+        MemNs {
+            tree,
+            writes,
+            reads,
+            written: 0,
+            read: 0,
+            faults: 0,
+        }
+    }
+
+    /// The tree.
+    pub fn tree(&self) -> &Tree
+        ensures { result.now ≡ self.now.tree }
+    {
+        &self.tree
+    }
+
+    /// The tree, without the store.
+    pub fn into_tree(self) -> Tree
+        ensures { result ≡ self.tree }
+    {
+        self.tree
+    }
+
+    // Counts a reading call, and says whether it fails.
+    fn is_failing_read(&mut self) -> bool
+        ensures fails { result ≡ is_failing_read self.old }
+        ensures step { self.new ≡ after_read self.old }
+        ensures later { self.old.faults ≤ self.new.faults }
+    {
+        self.read = self.read.saturating_add(1);
+        let fails = self.reads.as_slice().contains(&self.read);
+        if fails {
+            self.faults = self.faults.saturating_add(1);
+        }
+        fails
+    }
+}
+
+impl Namespace for MemNs {
+    ghost told = { λ m. Some m.tree };
+
+    ghost faults = { λ m. m.faults };
+
+    fn list(&mut self, below: Option<&Place>) -> Result<Items<Place>, NsError>
+        ensures step { self.new ≡ after_read self.old }
+        ensures fails { IsErrOf result NsError.Failed ↔ IsTrue (is_failing_read self.old) }
+        ensures only { IfErr result (λ error. (error ≡ NsError.Failed) ⊎ (error ≡ NsError.NoMemory)) }
+        ensures ok { IfOk result (λ places. places ≡ listing (option_copied below.entry) self.old.tree) }
+        ensures later { self.old.faults ≤ self.new.faults }
+    {
+        if self.is_failing_read() {
+            return Err(NsError::Failed);
+        }
+        Ok(self.tree.listing(below)?)
+    }
+
+    fn faults(&self) -> u64 {
+        self.faults
+    }
+}
+
+#[cfg(test)]
+mod tests {
+    use super::*;
+    use crate::file::FileState;
+    use bytes::Bytes;
+    use std::test::Fail;
+
+    // Files are added, or refused, and listed below a directory; the third reading call fails.
+    #[test]
+    fn lists_what_was_added(rt: HostRuntime) -> Result<(), Fail> {
+        let alloc = rt.alloc();
+        let mut tree = Tree::new(alloc);
+        let added = [
+            (b"a/c/d".as_slice(), Ok(())),
+            (b"a.b".as_slice(), Ok(())),
+            (b"a/b".as_slice(), Ok(())),
+            (b"b".as_slice(), Ok(())),
+            (b"a/b".as_slice(), Err(NsError::Exists)),
+            (b"a".as_slice(), Err(NsError::Exists)),
+            (b"a/b/c".as_slice(), Err(NsError::BelowFile)),
+        ];
+        for (text, answer) in added {
+            let file = FileState {
+                bytes: Bytes::new(),
+                moment: 7,
+            };
+            assert_eq!(rt; tree.add(Place::read(alloc, text)?, file), answer);
+        }
+        let dir = Place::read(alloc, b"a")?;
+        let mut ns = MemNs::new(tree, Items::new(alloc), Items::from_vec(vec![in alloc; 3]?));
+        let below = ns.list(Some(&dir))?;
+        assert_eq!(rt; below.len(), 2);
+        assert_eq!(rt; below.as_slice()[0].as_slice(), b"a/b".as_slice());
+        assert_eq!(rt; below.as_slice()[1].as_slice(), b"a/c/d".as_slice());
+        let all = ns.list(None)?;
+        assert_eq!(rt; all.len(), 4);
+        assert_eq!(rt; all.as_slice()[0].as_slice(), b"a.b".as_slice());
+        assert_eq!(rt; ns.list(None).is_err(), true);
+        assert_eq!(rt; ns.faults(), 1);
+        assert_eq!(rt; ns.list(None)?.len(), 4);
+        assert_eq!(rt; ns.tree().get(&dir).is_none(), true);
+        assert_eq!(rt;
+            ns.into_tree().get(&Place::read(alloc, b"b")?).is_some(),
+            true
+        );
+        Ok(())
+    }
+}
