@@ -1,0 +1,6 @@
+pub mod ListingLemmas
+pub mod OutputLemmas
+pub mod PlaceLemmas
+pub mod ScriptLemmas
+pub mod SetLemmas
+pub mod WordLemmas

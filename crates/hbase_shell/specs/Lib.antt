@@ -1,0 +1,6 @@
+pub mod Output
+pub mod Run
+pub mod RunError
+pub mod Script
+pub mod Snapshots
+pub mod Words

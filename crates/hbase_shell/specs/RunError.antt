@@ -1,0 +1,21 @@
+-- Why a run ends without its listing.
+use Rattle.std.specs.Prelude.{ℕ, List, codes}
+use Rattle.hbase_shell.specs.declared.run_error.RunError.{RunError}
+use Rattle.hbase_shell.specs.declared.run_error.RunError.TheVariants.{BadScript, Usage, ReadFault, NsFault, NoMemory}
+use Rattle.hbase_shell.specs.Script.{line}
+
+-- the exit status of each
+abbrev pub status_of : RunError → ℕ
+status_of BadScript = 1
+status_of Usage = 2
+status_of ReadFault = 3
+status_of NsFault = 5
+status_of NoMemory = 8
+
+-- the last line that each writes
+abbrev pub last_line : RunError → List ℕ
+last_line BadScript = line (codes "error BadScript session 0 line 1 column 1")
+last_line Usage = line (codes "error Usage")
+last_line ReadFault = line (codes "error ReadFault")
+last_line NsFault = line (codes "error NsFault")
+last_line NoMemory = line (codes "error NoMemory")

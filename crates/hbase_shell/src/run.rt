@@ -1,0 +1,181 @@
+//! The program's calls, from words and bytes to bytes.
+ghost use Rattle.std.specs.Prelude.{◌≡◌, ◌≢◌, ◌⊎◌, IfSome, ⊤, map};
+ghost use Rattle.std.specs.String.{string_bytes};
+ghost use Rattle.hb_causes.specs.Faults.{Rose};
+ghost use Rattle.hbase_shell.specs.Run.{IsAnswered, IsDue, IsWritten, ListsSnapshots};
+ghost use Rattle.hbase_shell.specs.Script.{IsScript, ReadsScript, ReadsAnother};
+ghost use Rattle.hbase_shell.specs.Words.{AreScriptWords};
+
+use crate::options::Options;
+use crate::outcome::Outcome;
+use crate::output::write_text;
+use crate::run_error::RunError;
+use crate::script::read_script;
+use crate::snapshots::list_snapshots;
+use crate::words::are_script_words;
+use hb_causes::{Clock, Failed, Gate, Sink, Source};
+use hb_wire::Blob;
+use ns_tree::Namespace;
+use std::alloc::Global;
+
+/// The exit status of a run whose output could not be written.
+const WRITE_FAULT: u8 = 4;
+
+/// Runs the command that the words behind the program's name tell. The one command is `mem script`, which
+/// runs the script of `input` over `store` and writes its answer to `output`, as [`hbase_script`] does.
+/// Other words take the status 2, and nothing is read.
+///
+/// It takes the allocator, and gives back what was handed in by value. The peer, the clock and the gate
+/// are not used by this command.
+pub fn hbase<
+    N: Namespace + Send,
+    P: Namespace + Send,
+    I: Source,
+    O: Sink,
+    C: Clock + Send,
+    G: Gate + Sync,
+>(
+    alloc: Global,
+    words: &[String],
+    input: &mut I,
+    output: &mut O,
+    store: N,
+    peer: P,
+    clock: C,
+    gate: &G,
+) -> Outcome<N, P, C>
+    // There was an answer by its cause, and it was written whole or cut off by a fault of the sink.
+    ensures answered { IsAnswered (AreScriptWords (map string_bytes words.now))
+        (I.left input.old) (I.left input.new) (Rose (I.faults input.old) (I.faults input.new))
+        (Rose (N.faults store) (N.faults result.store)) (result.store ≡ store) (N.told store)
+        (O.written output.old) (O.written output.new) (Rose (O.faults output.old) (O.faults output.new))
+        result.status }
+
+    // So this is what each status says.
+    ensures listed { result.status ≡ 0 → AreScriptWords (map string_bytes words.now)
+        × ReadsScript (I.left input.old) (I.left input.new)
+        × ListsSnapshots (N.told store) (O.written output.old) (O.written output.new) }
+    ensures bad_script { result.status ≡ 1 → ReadsAnother (I.left input.old) (I.left input.new) }
+    ensures usage { result.status ≡ 2 → ¬ AreScriptWords (map string_bytes words.now) }
+    ensures read_fault { result.status ≡ 3 → Rose (I.faults input.old) (I.faults input.new) }
+    ensures write_fault { result.status ≡ 4 → Rose (O.faults output.old) (O.faults output.new) }
+    ensures ns_fault { result.status ≡ 5 → Rose (N.faults store) (N.faults result.store) }
+
+    // Other words and other inputs are refused as such, unless a fault is.
+    ensures other_words { ¬ AreScriptWords (map string_bytes words.now)
+        → ((result.status ≡ 2) ⊎ (result.status ≡ 4)) × (input.new ≡ input.old) }
+    ensures other_script { AreScriptWords (map string_bytes words.now) → IfSome (I.left input.old) (λ script.
+        ¬ IsScript script → (result.status ≡ 1) ⊎ ((result.status ≡ 3) ⊎ (result.status ≡ 4))) }
+
+    ensures told { N.told result.store ≡ N.told store }
+    ensures kept { (result.peer ≡ peer) × (result.clock ≡ clock) }
+{
+    let _ = gate;
+    if are_script_words(words) {
+        return hbase_script(
+            alloc,
+            &Options::default(),
+            input,
+            output,
+            store,
+            peer,
+            clock,
+        );
+    }
+    let status = finish(output, Err(RunError::Usage));
+    Outcome {
+        status,
+        store,
+        peer,
+        clock,
+    }
+}
+
+/// Runs a script: reads it from `input`, answers it from `store`, and writes the whole answer to `output`
+/// at the end. The one script is the line `list_snapshots`, with or without a line feed; it is answered by
+/// a line for each snapshot of the store, in byte order, and a line with their number.
+///
+/// | status | when | output |
+/// |---|---|---|
+/// | 0 | the script was answered | the listing |
+/// | 1 | the input is another script | `error BadScript session 0 line 1 column 1` |
+/// | 3 | the source failed | `error ReadFault` |
+/// | 4 | the sink failed | a front of what the others write |
+/// | 5 | the store failed | `error NsFault` |
+/// | 8 | no memory was left | `error NoMemory` |
+///
+/// The input is read to its end, or to its 16th byte. Where it is another script or the source failed, the
+/// store is as it was handed in. It waits for nobody.
+pub fn hbase_script<N: Namespace, P: Namespace, I: Source, O: Sink, C: Clock>(
+    alloc: Global,
+    options: &Options,
+    input: &mut I,
+    output: &mut O,
+    store: N,
+    peer: P,
+    clock: C,
+) -> Outcome<N, P, C>
+    // There was an answer by its cause, and it was written whole or cut off by a fault of the sink.
+    ensures answered { IsAnswered ⊤
+        (I.left input.old) (I.left input.new) (Rose (I.faults input.old) (I.faults input.new))
+        (Rose (N.faults store) (N.faults result.store)) (result.store ≡ store) (N.told store)
+        (O.written output.old) (O.written output.new) (Rose (O.faults output.old) (O.faults output.new))
+        result.status }
+
+    // So this is what each status says.
+    ensures listed { result.status ≡ 0 → ReadsScript (I.left input.old) (I.left input.new)
+        × ListsSnapshots (N.told store) (O.written output.old) (O.written output.new) }
+    ensures bad_script { result.status ≡ 1 → ReadsAnother (I.left input.old) (I.left input.new) }
+    ensures usage { result.status ≢ 2 }
+    ensures read_fault { result.status ≡ 3 → Rose (I.faults input.old) (I.faults input.new) }
+    ensures write_fault { result.status ≡ 4 → Rose (O.faults output.old) (O.faults output.new) }
+    ensures ns_fault { result.status ≡ 5 → Rose (N.faults store) (N.faults result.store) }
+
+    // Other inputs are refused as such, unless a fault is.
+    ensures other_script { IfSome (I.left input.old) (λ script.
+        ¬ IsScript script → (result.status ≡ 1) ⊎ ((result.status ≡ 3) ⊎ (result.status ≡ 4))) }
+
+    ensures told { N.told result.store ≡ N.told store }
+    ensures kept { (result.peer ≡ peer) × (result.clock ≡ clock) }
+{
+    let _ = options;
+    let mut store = store;
+    let answer = answer_script(alloc, input, &mut store);
+    let status = finish(output, answer);
+    Outcome {
+        status,
+        store,
+        peer,
+        clock,
+    }
+}
+
+// Reads the script, and then answers it from the store.
+fn answer_script<I: Source, N: Namespace>(
+    alloc: Global,
+    input: &mut I,
+    store: &mut N,
+) -> Result<Blob, RunError>
+    ensures due { IsDue ⊤
+        (I.left input.old) (I.left input.new) (Rose (I.faults input.old) (I.faults input.new))
+        (Rose (N.faults store.old) (N.faults store.new)) (store.new ≡ store.old) (N.told store.old) result }
+    ensures told { N.told store.new ≡ N.told store.old }
+{
+    read_script(input)?;
+    list_snapshots(alloc, store)
+}
+
+// Writes an answer, and gives the status of the run.
+fn finish<O: Sink>(output: &mut O, answer: Result<Blob, RunError>) -> u8
+    ensures { IsWritten (O.written output.old) (O.written output.new)
+        (Rose (O.faults output.old) (O.faults output.new)) answer result }
+{
+    let (status, written) = match &answer {
+        Ok(text) => (0, write_text(output, text.as_slice())),
+        Err(error) => (error.status(), write_text(output, error.last_line())),
+    };
+    match written {
+        Ok(()) => status,
+        Err(Failed) => WRITE_FAULT,
+    }
+}

@@ -1,0 +1,181 @@
+use crate::{Outcome, hbase};
+use bytes::Bytes;
+use hb_causes::{ListClock, MemSink, MemSource, OpenGate};
+use hb_names::Place;
+use hb_wire::Items;
+use ns_tree::{FileState, MemNs, Tree};
+use std::alloc::Global;
+use std::process::Abort;
+use std::test::Fail;
+
+// A run: its words and input, the places of the store's files, the calls of the source, the sink and the
+// store that fail, and what it must answer and write.
+#[derive(Clone, Copy)]
+struct Case {
+    words: &'static [&'static str],
+    input: &'static [u8],
+    places: &'static [&'static [u8]],
+    source: &'static [u64],
+    sink: &'static [u64],
+    store: &'static [u64],
+    status: u8,
+    written: &'static [u8],
+}
+
+const SCRIPT: Case = Case {
+    words: &["mem", "script"],
+    input: b"list_snapshots\n",
+    places: &[],
+    source: &[],
+    sink: &[],
+    store: &[],
+    status: 0,
+    written: b"0 snapshots\n",
+};
+
+fn store_of(alloc: Global, places: &[&[u8]], reads: &[u64]) -> Result<MemNs, Fail> {
+    let mut tree = Tree::new(alloc);
+    for text in places {
+        let file = FileState {
+            bytes: Bytes::new(),
+            moment: 0,
+        };
+        tree.add(Place::read(alloc, text)?, file)?;
+    }
+    let reads = Items::from_vec(Vec::from_slice(alloc, reads)?);
+    Ok(MemNs::new(tree, Items::new(alloc), reads))
+}
+
+// The run's status, and what it wrote in pieces of one byte.
+fn answer(alloc: Global, case: &Case) -> Result<(u8, Vec<u8>), Fail> {
+    let mut words = Vec::new(alloc);
+    for word in case.words {
+        words.push(String::from_str(alloc, word)?)?;
+    }
+    let mut input = MemSource::new(
+        Vec::from_slice(alloc, case.input)?,
+        5,
+        Vec::from_slice(alloc, case.source)?,
+    );
+    let mut output = MemSink::new(alloc, 100, 1, Vec::from_slice(alloc, case.sink)?)?;
+    let outcome: Outcome<MemNs, MemNs, ListClock> = hbase(
+        alloc,
+        words.as_slice(),
+        &mut input,
+        &mut output,
+        store_of(alloc, case.places, case.store)?,
+        store_of(alloc, &[], &[])?,
+        ListClock::new(Vec::new(alloc)),
+        &OpenGate,
+    );
+    Ok((outcome.status, output.into_bytes()))
+}
+
+fn try_each(rt: &impl Abort, alloc: Global, cases: &[Case]) -> Result<(), Fail> {
+    for case in cases {
+        let (status, written) = answer(alloc, case)?;
+        assert_eq!(rt; written.as_slice(), case.written);
+        assert_eq!(rt; status, case.status);
+    }
+    Ok(())
+}
+
+#[test]
+fn lists_the_snapshots(rt: HostRuntime) -> Result<(), Fail> {
+    let cases = [
+        SCRIPT,
+        Case {
+            input: b"list_snapshots",
+            ..SCRIPT
+        },
+        // A snapshot that is still being taken is none.
+        Case {
+            places: &[b".hbase-snapshot/.tmp/s1/.snapshotinfo"],
+            ..SCRIPT
+        },
+        Case {
+            places: &[
+                b".hbase-snapshot/b/.snapshotinfo",
+                b".hbase-snapshot/a/data.manifest",
+            ],
+            written: b"a\nb\n2 snapshots\n",
+            ..SCRIPT
+        },
+        // Names stand in their own order, which is not that of the places: a slash comes after a dash and a dot.
+        Case {
+            places: &[
+                b".hbase-snapshot/a/data.manifest",
+                b".hbase-snapshot/a/.snapshotinfo",
+                b".hbase-snapshot/a.b/data.manifest",
+                b".hbase-snapshot/a-b/data.manifest",
+                b".hbase-snapshot/-a/data.manifest",
+                b".hbase-snapshot/c",
+                b"data/d/e",
+            ],
+            written: b"a\na-b\na.b\n3 snapshots\n",
+            ..SCRIPT
+        },
+        // The store is read once: a second call would fail.
+        Case {
+            store: &[2],
+            ..SCRIPT
+        },
+    ];
+    try_each(&rt, rt.alloc(), &cases)
+}
+
+#[test]
+fn says_why_it_lists_nothing(rt: HostRuntime) -> Result<(), Fail> {
+    let bad_script = Case {
+        status: 1,
+        written: b"error BadScript session 0 line 1 column 1\n",
+        ..SCRIPT
+    };
+    let usage = Case {
+        status: 2,
+        written: b"error Usage\n",
+        ..SCRIPT
+    };
+    let cases = [
+        Case {
+            input: b"",
+            ..bad_script
+        },
+        Case {
+            input: b"list_snapshots\n\n\n",
+            ..bad_script
+        },
+        Case {
+            input: b"list_snapshots\r\n",
+            ..bad_script
+        },
+        Case {
+            words: &["mem"],
+            ..usage
+        },
+        Case {
+            words: &["mem", "script", "script"],
+            source: &[1],
+            ..usage
+        },
+        Case {
+            source: &[1],
+            status: 3,
+            written: b"error ReadFault\n",
+            ..SCRIPT
+        },
+        Case {
+            sink: &[2],
+            status: 4,
+            written: b"0",
+            ..SCRIPT
+        },
+        Case {
+            store: &[1],
+            status: 5,
+            written: b"error NsFault\n",
+            ..SCRIPT
+        },
+    ];
+    try_each(&rt, rt.alloc(), &cases)
+}
