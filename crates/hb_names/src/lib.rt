@@ -15,6 +15,8 @@ pub mod qualifier;
 pub mod region_name;
 pub mod snap_name;
 pub mod table_name;
+#[cfg(test)]
+mod tests;
 
 pub use encoded::Encoded;
 pub use error::{BadName, NameError};
