@@ -1,12 +1,14 @@
-use Rattle.std.proofs.Common.{◌≡◌, ℕ, zero, suc, ◌+◌, ◌*◌, ◌/◌, ◌%◌, ◌<◌, ◌==◌, Bool, true, false, not, ◌&&◌, ◌||◌, nat_lt, inl, inr, List, [], ◌∷◌, length, slice_index, Option, Some, None, unwrap_or, Result, Ok, refl, sym, ap, ◌∙◌, arith}
-use Rattle.std.specs.Int.{w64, to_be_bytes, from_be_bytes}
+use Rattle.std.proofs.Common.{◌≡◌, ℕ, zero, suc, ◌+◌, ◌*◌, ◌/◌, ◌%◌, ◌<◌, ◌==◌, Bool, true, false, not, ◌&&◌, ◌||◌, nat_lt, inl, inr, List, [], ◌∷◌, length, slice_index, Option, Some, None, unwrap_or, Result, Ok, Err, refl, sym, ap, ◌∙◌, subst, arith}
+use Rattle.std.specs.Prelude.{MatchResult}
+use Rattle.std.specs.Int.{w64, to_be_bytes, from_be_bytes, bytes_high_first, byte_at}
 use Rattle.std.proofs.lemmas.Bool.{and_parts, cases_lt, eqb-true}
 use Rattle.std.proofs.lemmas.Bool.Decides.{nat_tests}
 use Rattle.std.proofs.lemmas.Nat.{be_bytes_8}
 use Rattle.hex.specs.Hex.{IsBytes, decode_pairs, decode_sized, encode_lower, encode_with, hex_digit_value, lower_digits, pair_value, value_at}
 use Rattle.hex.specs.declared.error.FromHexError.{FromHexError}
-use Rattle.hex.proofs.HexLemmas.{decode_sized-twice, decode_of-even}
+use Rattle.hex.proofs.HexLemmas.{decode_sized-twice, decode_of-even, length-encode_with}
 use Rattle.hex.proofs.Pairs.{cons_byte, decode_pairs-ok_pair}
+use Rattle.hb_names.proofs.LowerHexLemmas.{IsExactly-encode_lower}
 use Rattle.hb_grammar.specs.declared.class.Class.TheVariants.{LowerHex}
 use Rattle.hb_grammar.specs.Class.{has, AllIn}
 use Rattle.hb_grammar.specs.Run.{IsExactly}
@@ -84,6 +86,10 @@ IsBytes-cons : (byte : ℕ) (bytes : List ℕ) → byte < 256 → IsBytes bytes 
 IsBytes-cons byte bytes first rest zero = first
 IsBytes-cons byte bytes first rest (suc i) = rest i
 
+-- two bytes before others
+same_pair : {w x y z : ℕ} {xs ys : List ℕ} → w ≡ y → x ≡ z → xs ≡ ys → w ∷ x ∷ xs ≡ y ∷ z ∷ ys
+same_pair {w} {x} {y} {z} {xs} {ys} e f g = cc
+
 -- an even number of lower-case digits is the text of bytes
 IsRead-AllIn : (i : ℕ) (digits : List ℕ) → length digits % 2 ≡ 0 → AllIn LowerHex digits → (bytes : List ℕ) × IsRead i digits bytes
 unfolding decode_pairs encode_with
@@ -98,9 +104,47 @@ IsRead-AllIn i (a ∷ b ∷ digits) even each =
     let byte : ℕ = value_of a * 16 + value_of b in
     let pair : pair_value a b i ≡ Ok byte = rw (high.value, low.value) refl in
     let front : byte / 16 ≡ value_of a = omega arith in
-    let back : byte % 16 ≡ value_of b = omega arith in
-    (byte ∷ rest.0, record {
-      decoded = decode_pairs-ok_pair i a b byte digits pair ∙ ap (cons_byte byte) rest.1.decoded;
-      encoded = ?;
-      small = IsBytes-cons byte rest.0 (omega arith) rest.1.small;
-    })
+    let back : byte % 16 ≡ value_of b = omega arith in (
+      byte ∷ rest.0,
+      record {
+        decoded = decode_pairs-ok_pair i a b byte digits pair ∙ ap (cons_byte byte) rest.1.decoded;
+        encoded = same_pair (ap (slice_index lower_digits) front ∙ high.place) (ap (slice_index lower_digits) back ∙ low.place) rest.1.encoded;
+        small = IsBytes-cons byte rest.0 (omega arith) rest.1.small;
+      },
+    )
+
+-- what decodes to bytes, and a number that is made of these: its digits are the text
+pub sixteen_digits-from_be_bytes : (digits out : List ℕ) (r : Result Unit FromHexError) (number : ℕ) → IsExactly LowerHex 16 digits →
+    MatchResult (decode_sized digits 8) (λ bytes. (r ≡ Ok tt) × (out ≡ bytes)) (λ e. r ≡ Err e) →
+    number ≡ from_be_bytes w64 out → sixteen_digits number ≡ digits
+sixteen_digits-from_be_bytes digits out r number exactly decodes e =
+    let long = exactly.long in
+    let read = IsRead-AllIn 0 digits (omega arith) exactly.each in
+    let sized : decode_sized digits 8 ≡ Ok read.0 =
+    decode_sized-twice digits 8 (omega arith) ∙ decode_of-even digits (omega arith) ∙ read.1.decoded in
+    let P : Result (List ℕ) FromHexError → Type 0 = λ d. MatchResult d (λ bytes. (r ≡ Ok tt) × (out ≡ bytes)) (λ e. r ≡ Err e) in
+    let same = (subst P sized decodes).1 in
+    let eight : length read.0 ≡ 8 = omega (arith, length-encode_with lower_digits read.0, ap length read.1.encoded, long) in
+    let back : to_be_bytes w64 number ≡ read.0 = be_bytes_8 read.0 number eight read.1.small (e ∙ ap (from_be_bytes w64) same) in
+    ap encode_lower back ∙ read.1.encoded
+
+-- so many bytes of a number are so many
+length-bytes_high_first : (count number : ℕ) → length (bytes_high_first count number) ≡ count
+length-bytes_high_first zero number = refl
+length-bytes_high_first (suc count) number = ap suc (length-bytes_high_first count number)
+
+-- a byte of a number is one
+byte_at-lt : (i number : ℕ) → byte_at i number < 256
+byte_at-lt zero number = omega arith
+byte_at-lt (suc i) number = omega arith
+
+-- the bytes of a number are bytes
+IsBytes-bytes_high_first : (count number : ℕ) → IsBytes (bytes_high_first count number)
+IsBytes-bytes_high_first zero number = λ i. omega arith
+IsBytes-bytes_high_first (suc count) number =
+    IsBytes-cons (byte_at count number) (bytes_high_first count number) (byte_at-lt count number) (IsBytes-bytes_high_first count number)
+
+-- a number of 64 bits has 16 digits
+pub IsExactly-sixteen_digits : (number : ℕ) → IsExactly LowerHex 16 (sixteen_digits number)
+IsExactly-sixteen_digits number =
+    IsExactly-encode_lower (to_be_bytes w64 number) 8 (length-bytes_high_first 8 number) (IsBytes-bytes_high_first 8 number)

@@ -54,6 +54,16 @@ pub(crate) fn parts_of(bytes: &[u8]) -> FileParts
     }
 }
 
+/// The text of the parts of a name.
+fn text_of(alloc: Global, parts: FileParts) -> Result<Blob, NoMemory>
+    ensures { IfOk result (λ text. text ≡ file_text parts) }
+{
+    let mut text = Blob::copy_of(alloc, &digits_of_number(parts.epoch))?;
+    text.add(&digits_of_number(parts.counter))?;
+    add_suffix(&mut text, parts.seq)?;
+    Ok(text)
+}
+
 impl FileName {
     /// The parts of the name that the bytes are. It takes no memory.
     pub fn parse(bytes: &[u8]) -> Result<FileParts, BadName>
@@ -87,9 +97,7 @@ impl FileName {
         requires { HasSeqInLimit parts }
         ensures { IfOk result (λ name. name ≡ file_text parts) }
     {
-        let mut text = Blob::copy_of(alloc, &digits_of_number(parts.epoch))?;
-        text.add(&digits_of_number(parts.counter))?;
-        add_suffix(&mut text, parts.seq)?;
+        let text = text_of(alloc, parts)?;
         Ok(FileName { text })
     }
 

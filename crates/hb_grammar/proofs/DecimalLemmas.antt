@@ -4,7 +4,7 @@ use Rattle.std.proofs.lemmas.Fmt.{decimal_by_steps}
 use Rattle.std.proofs.lemmas.Bool.Decides.{nat_tests}
 use Rattle.hb_grammar.specs.Class.{is_digit}
 use Rattle.hb_grammar.specs.Number.{DigitsAfter, IsNumeral}
-use Rattle.hb_grammar.proofs.NumberLemmas.{value_after}
+use Rattle.hb_grammar.proofs.NumberLemmas.{value_after, IsNumeral-le}
 
 -- one digit more behind digits whose number is not 0
 DigitsAfter-push : (max value digit : ℕ) (digits : List ℕ) → DigitsAfter max value digits → 0 < value_after value digits → is_digit digit ≡ true →
@@ -17,12 +17,6 @@ DigitsAfter-push max value digit (first ∷ digits) after some e =
 value_after-push : (value digit : ℕ) (digits : List ℕ) → value_after value (digits ++ digit ∷ []) ≡ value_after value digits * 10 + (digit - 48)
 value_after-push value digit [] = refl
 value_after-push value digit (first ∷ digits) = value_after-push (value * 10 + (first - 48)) digit digits
-
--- a higher limit
-DigitsAfter-le : (low high value : ℕ) (digits : List ℕ) → low ≤ high → DigitsAfter low value digits → DigitsAfter high value digits
-DigitsAfter-le low high value [] le after = omega arith
-DigitsAfter-le low high value (first ∷ digits) le after =
-    (after.0, after.1, DigitsAfter-le low high (value * 10 + (first - 48)) digits le after.2)
 
 -- the digits are a numeral of the number, up to the number itself
 record Writes (number : ℕ) (digits : List ℕ) : Type 0 where
@@ -60,8 +54,4 @@ pub IsNumeral-decimal : (positive : Bool) (max number : ℕ) → (positive ≡ t
     IsNumeral positive max (decimal number)
 IsNumeral-decimal positive max number some within small =
     let writes = decimal_by_steps Writes Writes-one Writes-push number small in
-    weaker (decimal number) (writes.numeral positive some)
-  where
-    weaker : (digits : List ℕ) → IsNumeral positive number digits → IsNumeral positive max digits
-    weaker [] numeral = numeral
-    weaker (first ∷ digits) numeral = (numeral.0, numeral.1, DigitsAfter-le number max (first - 48) digits within numeral.2)
+    IsNumeral-le positive number max (decimal number) within (writes.numeral positive some)

@@ -51,14 +51,19 @@ lone-zero : (max digit : ℕ) (digits : List ℕ) → DigitsAfter max (digit - 4
 lone-zero max digit digits after e =
     let none = length-DigitsAfter max digits (subst (λ (n : ℕ). DigitsAfter max (n - 48) digits) e after) in omega arith
 
+-- a numeral's number is not above its limit
+pub value_after-IsNumeral : (positive : Bool) (max : ℕ) (bytes : List ℕ) → IsNumeral positive max bytes → value_after 0 bytes ≤ max
+value_after-IsNumeral positive max [] numeral = absurd numeral
+value_after-IsNumeral positive max (digit ∷ digits) numeral =
+    let e : 0 * 10 + (digit - 48) ≡ digit - 48 = omega arith in
+    subst (λ (n : ℕ). value_after n digits ≤ max) (sym e) (value_after-le max (digit - 48) digits numeral.2)
+
 -- a numeral is the decimal of its number
 pub decimal-value_after : (positive : Bool) (max : ℕ) (bytes : List ℕ) → max < 2 ^ 64 → IsNumeral positive max bytes → decimal (value_after 0 bytes) ≡ bytes
 decimal-value_after positive max [] small numeral = absurd numeral
 decimal-value_after positive max (digit ∷ digits) small numeral =
-    let e : 0 * 10 + (digit - 48) ≡ digit - 48 = omega arith in
-    let within : value_after (digit - 48) digits ≤ max = value_after-le max (digit - 48) digits numeral.2 in
     let all : AllDigits (digit ∷ digits) = (numeral.0, AllDigits-DigitsAfter max (digit - 48) digits numeral.2) in
-    let value : value_after 0 (digit ∷ digits) ≤ max = subst (λ (n : ℕ). value_after n digits ≤ max) (sym e) within in
+    let value : value_after 0 (digit ∷ digits) ≤ max = value_after-IsNumeral positive max (digit ∷ digits) numeral in
     decimal-digits_value digits_model (digit ∷ digits) all (omega arith) (lone-zero max digit digits numeral.2) (omega arith)
 
 -- the digits that are left behind a number make the whole number
@@ -107,3 +112,19 @@ Leaves-drop_all max value whole i bytes past leaves =
 pub length-IsNumeral : (positive : Bool) (max : ℕ) (bytes : List ℕ) → IsNumeral positive max bytes → 0 < length bytes
 length-IsNumeral positive max [] numeral = absurd numeral
 length-IsNumeral positive max (digit ∷ digits) numeral = omega arith
+
+-- a higher limit for the digits behind
+DigitsAfter-le : (low high value : ℕ) (digits : List ℕ) → low ≤ high → DigitsAfter low value digits → DigitsAfter high value digits
+DigitsAfter-le low high value [] le after = omega arith
+DigitsAfter-le low high value (first ∷ digits) le after =
+    (after.0, after.1, DigitsAfter-le low high (value * 10 + (first - 48)) digits le after.2)
+
+-- a higher limit
+pub IsNumeral-le : (positive : Bool) (low high : ℕ) (bytes : List ℕ) → low ≤ high → IsNumeral positive low bytes → IsNumeral positive high bytes
+IsNumeral-le positive low high [] le numeral = numeral
+IsNumeral-le positive low high (first ∷ digits) le numeral = (numeral.0, numeral.1, DigitsAfter-le low high (first - 48) digits le numeral.2)
+
+-- a number that is to be positive is one that need not be
+pub IsNumeral-positive : (positive : Bool) (max : ℕ) (bytes : List ℕ) → IsNumeral positive max bytes → IsNumeral false max bytes
+IsNumeral-positive positive max [] numeral = numeral
+IsNumeral-positive positive max (first ∷ digits) numeral = (numeral.0, λ e. absurd (cc e), numeral.2)

@@ -102,7 +102,8 @@ impl Grammar for Number {
 /// The number that a numeral stands for.
 pub fn number_of(bytes: &[u8]) -> u64
     requires { IsNumeral false 18_446_744_073_709_551_615 bytes.now }
-    ensures { decimal result ≡ bytes.now }
+    ensures text { decimal result ≡ bytes.now }
+    ensures limit { (max : ℕ) → IsNumeral false max bytes.now → result ≤ max }
 {
     let mut value = (bytes[0] - b'0') as u64;
     for i in 1..bytes.len() {

@@ -4,8 +4,8 @@ ghost use Rattle.std.specs.Prelude.{◌≡◌, ◌++◌, IfOk, IfErr, OnOk, OnEr
 ghost use Rattle.std.specs.Cmp.{partial_equiv_from_equiv};
 ghost use Rattle.std.specs.Cmp.Lexicographic.{pointwise, slice_cmp, nat_list_eq_equiv, nat_list_cmp_total, texts_ties, texts_po};
 ghost use Rattle.std.specs.Ordering.{nat_cmp};
-ghost use Rattle.hb_grammar.specs.declared.class.Class.TheVariants.{LowerHex};
-ghost use Rattle.hb_grammar.specs.Grammar.{IsFault};
+ghost use Rattle.hb_grammar.specs.Grammar.{IsFault, Same};
+ghost use Rattle.hb_grammar.specs.Run.{IsExactly};
 ghost use Rattle.hb_names.specs.NameError.{IsRefusal};
 ghost use Rattle.hb_names.specs.Encoded.{IsEncoded};
 
@@ -34,9 +34,9 @@ impl Model for Encoded {
     ghost invariant = { λ name. IsEncoded name.text };
 }
 
-/// The grammar of an encoded name.
+/// The grammar of an encoded name, before its first byte.
 pub fn encoded_grammar() -> Exactly
-    ensures { result ≡ record { class = LowerHex; count = 32 } }
+    ensures { Same (IsExactly result.class result.count) IsEncoded }
 {
     Exactly {
         class: Class::LowerHex,
@@ -76,6 +76,16 @@ impl Encoded {
         let name = Encoded::parse(bytes)?;
         Ok(Encoded {
             text: Blob::copy_of(alloc, name)?,
+        })
+    }
+
+    /// The name of bytes that are known to be one, with a copy of them.
+    pub fn of(alloc: Global, bytes: &[u8]) -> Result<Encoded, NoMemory>
+        requires { IsEncoded bytes.now }
+        ensures { IfOk result (λ name. name ≡ bytes.now) }
+    {
+        Ok(Encoded {
+            text: Blob::copy_of(alloc, bytes)?,
         })
     }
 
