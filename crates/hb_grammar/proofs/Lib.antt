@@ -5,3 +5,5 @@ pub mod MarkedLemmas
 pub mod EitherLemmas
 pub mod SeparatedLemmas
 pub mod AvoidsLemmas
+pub mod NumberLemmas
+pub mod DecimalLemmas

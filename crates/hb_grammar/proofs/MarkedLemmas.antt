@@ -53,12 +53,3 @@ pub Refuses-Marked : (inner : List ℕ → Type 0) (mark byte : ℕ) → byte �
 Refuses-Marked inner mark byte other refused rest marked =
     elim (first-marked inner mark byte rest marked.front marked.whole marked.in_inner) as (λ _. ⊥)
     [ inl p ↦ other p.0 | inr p ↦ refused p.0 p.2 ]
-
--- no bytes end with no mark
-nil-marked : (mark : ℕ) (front : List ℕ) → [] ≡ front ++ mark ∷ [] → ⊥
-nil-marked mark [] e = cc
-nil-marked mark (x ∷ xs) e = cc
-
--- the string of no bytes has no mark at its end
-pub Marked-nil : (inner : List ℕ → Type 0) (mark : ℕ) → Marked inner mark [] → ⊥
-Marked-nil inner mark marked = nil-marked mark marked.front marked.whole

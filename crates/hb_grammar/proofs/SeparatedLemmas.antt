@@ -3,10 +3,11 @@ use Rattle.hb_grammar.specs.Grammar.{Refuses, Follows}
 use Rattle.hb_grammar.specs.Joined.{Joined}
 use Rattle.hb_grammar.specs.JoinedLaws.{Joined-nil_first}
 use Rattle.hb_grammar.specs.Marked.{Marked, Avoids}
+use Rattle.hb_grammar.specs.MarkedLaws.{Marked-nil}
 use Rattle.hb_grammar.specs.Separated.{SeparatedFrom}
 use Rattle.hb_grammar.proofs.EitherLemmas.{Follows-EitherOf}
 use Rattle.hb_grammar.proofs.JoinedLemmas.{Follows-Joined_first, Refuses-Joined_first}
-use Rattle.hb_grammar.proofs.MarkedLemmas.{Follows-Marked_end, Refuses-Marked_end, Follows-Marked, Refuses-Marked, Marked-nil}
+use Rattle.hb_grammar.proofs.MarkedLemmas.{Follows-Marked_end, Refuses-Marked_end, Follows-Marked, Refuses-Marked}
 
 -- what stands behind nothing is all there is
 behind-nil : (second : List ℕ → Type 0) (rest front back : List ℕ) → rest ≡ front ++ back → front ≡ [] → second back → second rest

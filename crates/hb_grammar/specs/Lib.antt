@@ -5,6 +5,11 @@ pub mod RunLaws
 pub mod Joined
 pub mod JoinedLaws
 pub mod Marked
+pub mod MarkedLaws
 pub mod Either
+pub mod EitherLaws
 pub mod Separated
 pub mod SeparatedLaws
+pub mod TextLaws
+pub mod Number
+pub mod NumberLaws

@@ -10,15 +10,25 @@
 #![tactic(auto)]
 
 pub mod class;
+pub mod either;
+pub mod end;
 pub mod exactly;
 pub mod grammar;
+pub mod literal;
+pub mod number;
 pub mod run;
 pub mod separated;
 pub mod then;
+pub mod until;
 
 pub use class::Class;
+pub use either::Either;
+pub use end::End;
 pub use exactly::Exactly;
 pub use grammar::{Closed, Fault, Grammar, scan};
+pub use literal::Literal;
+pub use number::{Number, number_of};
 pub use run::Run;
 pub use separated::Separated;
 pub use then::Then;
+pub use until::Until;

@@ -4,3 +4,7 @@ pub mod ComponentLaws
 pub mod Place
 pub mod Qualifier
 pub mod SnapName
+pub mod TableName
+pub mod FamilyName
+pub mod Encoded
+pub mod RegionName

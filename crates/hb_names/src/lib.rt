@@ -6,11 +6,22 @@
 #![tactic(auto)]
 
 pub mod component;
+pub mod encoded;
 pub mod error;
+pub mod family_grammar;
+pub mod family_name;
 pub mod place;
 pub mod qualifier;
+pub mod region_name;
 pub mod snap_name;
+pub mod table_name;
+#[cfg(test)]
+mod tests;
 
+pub use encoded::Encoded;
 pub use error::{BadName, NameError};
+pub use family_name::FamilyName;
 pub use place::Place;
+pub use region_name::{RegionName, encode_region};
 pub use snap_name::SnapName;
+pub use table_name::TableName;

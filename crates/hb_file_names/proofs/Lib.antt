@@ -1,0 +1,9 @@
+pub mod SplitLemmas
+pub mod DigitsLemmas
+pub mod FreeLemmas
+pub mod SuffixLemmas
+pub mod FileLemmas
+pub mod RegroupLemmas
+pub mod LinkLemmas
+pub mod MarkLemmas
+pub mod TextLemmas

@@ -1,0 +1,5 @@
+use Rattle.hb_grammar.proofs.SameLemmas.{IsFault-Same}
+use Rattle.hb_file_names.proofs.link_name.LinkName.read.Goals as goal
+
+pub returns-in-Err-clause-refused : goal.returns-in-Err-clause-refused
+returns-in-Err-clause-refused c = IsFault-Same _ _ c.link_grammar.ensures _ _ c.in-Err.ensures.fault

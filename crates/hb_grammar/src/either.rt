@@ -1,0 +1,92 @@
+//! One grammar or another.
+
+ghost use Rattle.std.specs.Prelude.{◌≡◌, [], Some, None, true, false};
+ghost use Rattle.hb_grammar.specs.Grammar.{Follows, Same};
+ghost use Rattle.hb_grammar.specs.Either.{IfLeft, EitherOf};
+
+use crate::grammar::Grammar;
+use std::alloc::AllocError;
+
+/// A string of one grammar, or of another. Both are followed as long as they go on, so that the place
+/// of a fault is the greater of both.
+pub struct Either<A, B> {
+    left: Option<A>,
+    right: Option<B>,
+    ghost some: { left ≡ None → right ≡ None → ⊥ },
+}
+
+impl<A: Copy, B: Copy> Clone for Either<A, B> {
+    ghost is_clone = { λ x y. y ≡ x };
+
+    ghost is_infallible = { λ _. Unit {0} };
+
+    fn clone(&self) -> Result<Self, AllocError> {
+        Ok(*self)
+    }
+}
+
+impl<A: Copy, B: Copy> Copy for Either<A, B> {}
+
+impl<A: Grammar, B: Grammar> Either<A, B> {
+    /// A string of `left`, or of `right`.
+    #[tactic(auto, using(crate::proofs::SameLemmas::Same_refl))]
+    pub fn new(left: A, right: B) -> Either<A, B>
+        ensures { Same (EitherOf (IfLeft A.spells result.left) (IfLeft B.spells result.right)) (EitherOf (A.spells left) (B.spells right)) }
+    {
+        Either {
+            left: Some(left),
+            right: Some(right),
+        }
+    }
+}
+
+/// What is left after a byte, where something was.
+fn step_left<A: Grammar>(grammar: Option<A>, byte: u8) -> Option<A>
+    ensures { Follows (IfLeft A.spells grammar) byte (IfLeft A.spells result) }
+{
+    match grammar {
+        None => None,
+        Some(grammar) => grammar.step(byte),
+    }
+}
+
+/// Whether something is left, and has the string of no bytes.
+fn is_whole_left<A: Grammar>(grammar: Option<A>) -> bool
+    ensures yes { result ≡ true → IfLeft A.spells grammar [] }
+    ensures no { result ≡ false → IfLeft A.spells grammar [] → ⊥ }
+{
+    match grammar {
+        None => false,
+        Some(grammar) => grammar.is_whole(),
+    }
+}
+
+impl<A: Grammar, B: Grammar> Grammar for Either<A, B> {
+    ghost use Rattle.hb_grammar.specs.EitherLaws.{IsLive-EitherOf};
+
+    ghost spells = { λ either. EitherOf (IfLeft A.spells either.left) (IfLeft B.spells either.right) };
+
+    ghost completes = { λ either. IsLive-EitherOf A.spells B.spells A.completes B.completes either.left either.right either.some };
+
+    fn step(self, byte: u8) -> Option<Self> {
+        let left = step_left(self.left, byte);
+        let right = step_left(self.right, byte);
+        match left {
+            Some(left) => Some(Either {
+                left: Some(left),
+                right,
+            }),
+            None => match right {
+                Some(right) => Some(Either {
+                    left: None,
+                    right: Some(right),
+                }),
+                None => None,
+            },
+        }
+    }
+
+    fn is_whole(self) -> bool {
+        is_whole_left(self.left) || is_whole_left(self.right)
+    }
+}
