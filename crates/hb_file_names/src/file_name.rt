@@ -1,9 +1,6 @@
 //! Names of store files.
 
-ghost use Rattle.std.specs.Prelude.{◌≡◌, ◌++◌, IfOk, IfErr, OnOk, OnErr, nat_eq, Some, refl};
-ghost use Rattle.std.specs.Cmp.{partial_equiv_from_equiv};
-ghost use Rattle.std.specs.Cmp.Lexicographic.{pointwise, slice_cmp, nat_list_eq_equiv, nat_list_cmp_total, texts_ties, texts_po};
-ghost use Rattle.std.specs.Ordering.{nat_cmp};
+ghost use Rattle.std.specs.Prelude.{◌≡◌, ◌++◌, IfOk, IfErr, OnOk, OnErr};
 ghost use Rattle.hb_grammar.specs.Grammar.{IsFault};
 ghost use Rattle.hb_names.specs.NameError.{IsRefusal};
 ghost use Rattle.hb_file_names.specs.FileName.{IsFileName};
@@ -17,13 +14,12 @@ use hb_grammar::scan;
 use hb_names::{BadName, NameError};
 use hb_wire::{Blob, Copied, NoMemory};
 use std::alloc::Global;
-use std::cmp::Ordering;
 use std::marker::Model;
 
 /// The name of a store file: 32 lower-case hexadecimal digits, 16 of the epoch and 16 of the counter, and
 /// then nothing or `_SeqId_<n>_`, where n is a decimal number up to 9,223,372,036,854,775,807, the sequence
 /// number of the file's cells. Names are ordered as their bytes.
-#[derive(Debug, Drop)]
+#[derive(Debug, Drop, PartialEq, Eq, PartialOrd, Ord)]
 pub struct FileName {
     text: Blob,
 }
@@ -37,6 +33,8 @@ impl Model for FileName {
     ghost view = { λ name. name.text };
 
     ghost invariant = { λ name. IsFileName name.text };
+
+    ghost inverse = { λ text. record { text = text } };
 }
 
 /// The parts of a name.
@@ -131,43 +129,5 @@ impl Copied for FileName {
         Ok(FileName {
             text: self.text.copy()?,
         })
-    }
-}
-
-impl PartialEq for FileName {
-    ghost eq = { pointwise nat_eq };
-
-    ghost laws = { partial_equiv_from_equiv nat_list_eq_equiv };
-
-    fn eq(&self, other: &FileName) -> bool {
-        self.as_slice() == other.as_slice()
-    }
-}
-
-impl Eq for FileName {
-    ghost laws = { nat_list_eq_equiv };
-}
-
-impl PartialOrd for FileName {
-    ghost partial_cmp = { λ x y. Some (slice_cmp nat_cmp x y) };
-
-    ghost laws = { texts_po };
-
-    fn partial_cmp(&self, other: &FileName) -> Option<Ordering> {
-        Some(self.cmp(other))
-    }
-}
-
-impl Ord for FileName {
-    ghost cmp = { slice_cmp nat_cmp };
-
-    ghost total = { nat_list_cmp_total };
-
-    ghost matches_partial_cmp = { λ x y. refl };
-
-    ghost matches_eq = { texts_ties };
-
-    fn cmp(&self, other: &FileName) -> Ordering {
-        self.as_slice().cmp(other.as_slice())
     }
 }

@@ -1,9 +1,6 @@
 //! Names of links.
 
-ghost use Rattle.std.specs.Prelude.{◌≡◌, ◌++◌, IfOk, IfErr, OnOk, OnErr, nat_eq, Some, refl};
-ghost use Rattle.std.specs.Cmp.{partial_equiv_from_equiv};
-ghost use Rattle.std.specs.Cmp.Lexicographic.{pointwise, slice_cmp, nat_list_eq_equiv, nat_list_cmp_total, texts_ties, texts_po};
-ghost use Rattle.std.specs.Ordering.{nat_cmp};
+ghost use Rattle.std.specs.Prelude.{◌≡◌, ◌++◌, IfOk, IfErr, OnOk, OnErr};
 ghost use Rattle.hb_grammar.specs.Grammar.{IsFault};
 ghost use Rattle.hb_names.specs.NameError.{IsRefusal};
 ghost use Rattle.hb_file_names.specs.FileParts.{file_text, HasSeqInLimit};
@@ -20,12 +17,11 @@ use hb_grammar::scan;
 use hb_names::{BadName, Encoded, NameError, TableName};
 use hb_wire::{Blob, Copied, NoMemory};
 use std::alloc::Global;
-use std::cmp::Ordering;
 use std::marker::Model;
 
 /// The name of a link to a store file: `<table>=<encoded region>-<file name>` (HBase HFileLink). Names are
 /// ordered as their bytes.
-#[derive(Debug, Drop)]
+#[derive(Debug, Drop, PartialEq, Eq, PartialOrd, Ord)]
 pub struct LinkName {
     text: Blob,
 }
@@ -39,6 +35,8 @@ impl Model for LinkName {
     ghost view = { λ name. name.text };
 
     ghost invariant = { λ name. IsLinkName name.text };
+
+    ghost inverse = { λ text. record { text = text } };
 }
 
 /// The parts of a link's name, with the bytes of the input.
@@ -153,43 +151,5 @@ impl Copied for LinkName {
         Ok(LinkName {
             text: self.text.copy()?,
         })
-    }
-}
-
-impl PartialEq for LinkName {
-    ghost eq = { pointwise nat_eq };
-
-    ghost laws = { partial_equiv_from_equiv nat_list_eq_equiv };
-
-    fn eq(&self, other: &LinkName) -> bool {
-        self.as_slice() == other.as_slice()
-    }
-}
-
-impl Eq for LinkName {
-    ghost laws = { nat_list_eq_equiv };
-}
-
-impl PartialOrd for LinkName {
-    ghost partial_cmp = { λ x y. Some (slice_cmp nat_cmp x y) };
-
-    ghost laws = { texts_po };
-
-    fn partial_cmp(&self, other: &LinkName) -> Option<Ordering> {
-        Some(self.cmp(other))
-    }
-}
-
-impl Ord for LinkName {
-    ghost cmp = { slice_cmp nat_cmp };
-
-    ghost total = { nat_list_cmp_total };
-
-    ghost matches_partial_cmp = { λ x y. refl };
-
-    ghost matches_eq = { texts_ties };
-
-    fn cmp(&self, other: &LinkName) -> Ordering {
-        self.as_slice().cmp(other.as_slice())
     }
 }

@@ -1,9 +1,6 @@
 //! Names of references.
 
-ghost use Rattle.std.specs.Prelude.{◌≡◌, ◌++◌, IfOk, IfErr, OnOk, OnErr, nat_eq, Some, refl};
-ghost use Rattle.std.specs.Cmp.{partial_equiv_from_equiv};
-ghost use Rattle.std.specs.Cmp.Lexicographic.{pointwise, slice_cmp, nat_list_eq_equiv, nat_list_cmp_total, texts_ties, texts_po};
-ghost use Rattle.std.specs.Ordering.{nat_cmp};
+ghost use Rattle.std.specs.Prelude.{◌≡◌, ◌++◌, IfOk, IfErr, OnOk, OnErr};
 ghost use Rattle.hb_grammar.specs.Grammar.{IsFault};
 ghost use Rattle.hb_names.specs.NameError.{IsRefusal};
 ghost use Rattle.hb_file_names.specs.FileName.{IsFileName};
@@ -20,13 +17,12 @@ use hb_grammar::scan;
 use hb_names::{BadName, Encoded, NameError};
 use hb_wire::{Blob, Copied, NoMemory};
 use std::alloc::Global;
-use std::cmp::Ordering;
 use std::marker::Model;
 
 /// The name of a reference to one half of a file, after a split: `<file name>.<encoded region>` or
 /// `<link name>.<encoded region>`, with the region that was split (HBase Reference). Names are ordered as
 /// their bytes.
-#[derive(Debug, Drop)]
+#[derive(Debug, Drop, PartialEq, Eq, PartialOrd, Ord)]
 pub struct RefName {
     text: Blob,
 }
@@ -40,6 +36,8 @@ impl Model for RefName {
     ghost view = { λ name. name.text };
 
     ghost invariant = { λ name. IsRefName name.text };
+
+    ghost inverse = { λ text. record { text = text } };
 }
 
 /// The parts of a reference's name, with the bytes of the input.
@@ -146,43 +144,5 @@ impl Copied for RefName {
         Ok(RefName {
             text: self.text.copy()?,
         })
-    }
-}
-
-impl PartialEq for RefName {
-    ghost eq = { pointwise nat_eq };
-
-    ghost laws = { partial_equiv_from_equiv nat_list_eq_equiv };
-
-    fn eq(&self, other: &RefName) -> bool {
-        self.as_slice() == other.as_slice()
-    }
-}
-
-impl Eq for RefName {
-    ghost laws = { nat_list_eq_equiv };
-}
-
-impl PartialOrd for RefName {
-    ghost partial_cmp = { λ x y. Some (slice_cmp nat_cmp x y) };
-
-    ghost laws = { texts_po };
-
-    fn partial_cmp(&self, other: &RefName) -> Option<Ordering> {
-        Some(self.cmp(other))
-    }
-}
-
-impl Ord for RefName {
-    ghost cmp = { slice_cmp nat_cmp };
-
-    ghost total = { nat_list_cmp_total };
-
-    ghost matches_partial_cmp = { λ x y. refl };
-
-    ghost matches_eq = { texts_ties };
-
-    fn cmp(&self, other: &RefName) -> Ordering {
-        self.as_slice().cmp(other.as_slice())
     }
 }

@@ -1,9 +1,6 @@
 //! Encoded names of regions.
 
-ghost use Rattle.std.specs.Prelude.{◌≡◌, ◌++◌, IfOk, IfErr, OnOk, OnErr, nat_eq, Some, refl};
-ghost use Rattle.std.specs.Cmp.{partial_equiv_from_equiv};
-ghost use Rattle.std.specs.Cmp.Lexicographic.{pointwise, slice_cmp, nat_list_eq_equiv, nat_list_cmp_total, texts_ties, texts_po};
-ghost use Rattle.std.specs.Ordering.{nat_cmp};
+ghost use Rattle.std.specs.Prelude.{◌≡◌, ◌++◌, IfOk, IfErr, OnOk, OnErr};
 ghost use Rattle.hb_grammar.specs.Grammar.{IsFault, Same};
 ghost use Rattle.hb_grammar.specs.Run.{IsExactly};
 ghost use Rattle.hb_names.specs.NameError.{IsRefusal};
@@ -13,12 +10,11 @@ use crate::error::{BadName, NameError};
 use hb_grammar::{Class, Exactly, scan};
 use hb_wire::{Blob, Copied, NoMemory};
 use std::alloc::Global;
-use std::cmp::Ordering;
 use std::marker::Model;
 
 /// The encoded name of a region, by which its directory is named: 32 lower-case hexadecimal digits.
 /// Names are ordered as their bytes.
-#[derive(Debug, Drop)]
+#[derive(Debug, Drop, PartialEq, Eq, PartialOrd, Ord)]
 pub struct Encoded {
     text: Blob,
 }
@@ -32,6 +28,8 @@ impl Model for Encoded {
     ghost view = { λ name. name.text };
 
     ghost invariant = { λ name. IsEncoded name.text };
+
+    ghost inverse = { λ text. record { text = text } };
 }
 
 /// The grammar of an encoded name, before its first byte.
@@ -111,43 +109,5 @@ impl Copied for Encoded {
         Ok(Encoded {
             text: self.text.copy()?,
         })
-    }
-}
-
-impl PartialEq for Encoded {
-    ghost eq = { pointwise nat_eq };
-
-    ghost laws = { partial_equiv_from_equiv nat_list_eq_equiv };
-
-    fn eq(&self, other: &Encoded) -> bool {
-        self.as_slice() == other.as_slice()
-    }
-}
-
-impl Eq for Encoded {
-    ghost laws = { nat_list_eq_equiv };
-}
-
-impl PartialOrd for Encoded {
-    ghost partial_cmp = { λ x y. Some (slice_cmp nat_cmp x y) };
-
-    ghost laws = { texts_po };
-
-    fn partial_cmp(&self, other: &Encoded) -> Option<Ordering> {
-        Some(self.cmp(other))
-    }
-}
-
-impl Ord for Encoded {
-    ghost cmp = { slice_cmp nat_cmp };
-
-    ghost total = { nat_list_cmp_total };
-
-    ghost matches_partial_cmp = { λ x y. refl };
-
-    ghost matches_eq = { texts_ties };
-
-    fn cmp(&self, other: &Encoded) -> Ordering {
-        self.as_slice().cmp(other.as_slice())
     }
 }

@@ -1,9 +1,6 @@
 //! Places of files.
 
-ghost use Rattle.std.specs.Prelude.{◌≡◌, ◌++◌, IfOk, IfErr, OnOk, OnErr, nat_eq, Some, refl};
-ghost use Rattle.std.specs.Cmp.{partial_equiv_from_equiv};
-ghost use Rattle.std.specs.Cmp.Lexicographic.{pointwise, slice_cmp, nat_list_eq_equiv, nat_list_cmp_total, texts_ties, texts_po};
-ghost use Rattle.std.specs.Ordering.{nat_cmp};
+ghost use Rattle.std.specs.Prelude.{◌≡◌, ◌++◌, IfOk, IfErr, OnOk, OnErr};
 ghost use Rattle.hb_grammar.specs.Grammar.{Same, IsFault};
 ghost use Rattle.hb_names.specs.NameError.{IsRefusal};
 ghost use Rattle.hb_names.specs.Place.{IsPlace};
@@ -13,14 +10,13 @@ use crate::error::{BadName, NameError};
 use hb_grammar::{Grammar, Separated, scan};
 use hb_wire::{Blob, Copied, NoMemory};
 use std::alloc::Global;
-use std::cmp::Ordering;
 use std::marker::Model;
 
 type PlaceGrammar = Separated<ComponentGrammar>;
 
 /// Where a file stands: 1 to 16 components joined by `/`. A component has 1 to 255 letters, digits and
 /// `_ - . =`, and is neither `.` nor `..`. Places are ordered as their bytes.
-#[derive(Debug, Drop)]
+#[derive(Debug, Drop, PartialEq, Eq, PartialOrd, Ord)]
 pub struct Place {
     text: Blob,
 }
@@ -34,6 +30,8 @@ impl Model for Place {
     ghost view = { λ place. place.text };
 
     ghost invariant = { λ place. IsPlace place.text };
+
+    ghost inverse = { λ text. record { text = text } };
 }
 
 fn place_grammar() -> PlaceGrammar
@@ -105,44 +103,6 @@ impl Copied for Place {
         Ok(Place {
             text: self.text.copy()?,
         })
-    }
-}
-
-impl PartialEq for Place {
-    ghost eq = { pointwise nat_eq };
-
-    ghost laws = { partial_equiv_from_equiv nat_list_eq_equiv };
-
-    fn eq(&self, other: &Place) -> bool {
-        self.as_slice() == other.as_slice()
-    }
-}
-
-impl Eq for Place {
-    ghost laws = { nat_list_eq_equiv };
-}
-
-impl PartialOrd for Place {
-    ghost partial_cmp = { λ x y. Some (slice_cmp nat_cmp x y) };
-
-    ghost laws = { texts_po };
-
-    fn partial_cmp(&self, other: &Place) -> Option<Ordering> {
-        Some(self.cmp(other))
-    }
-}
-
-impl Ord for Place {
-    ghost cmp = { slice_cmp nat_cmp };
-
-    ghost total = { nat_list_cmp_total };
-
-    ghost matches_partial_cmp = { λ x y. refl };
-
-    ghost matches_eq = { texts_ties };
-
-    fn cmp(&self, other: &Place) -> Ordering {
-        self.as_slice().cmp(other.as_slice())
     }
 }
 

@@ -1,9 +1,6 @@
 //! Names of snapshots.
 
-ghost use Rattle.std.specs.Prelude.{◌≡◌, ◌++◌, IfOk, IfErr, OnOk, OnErr, nat_eq, Some, refl};
-ghost use Rattle.std.specs.Cmp.{partial_equiv_from_equiv};
-ghost use Rattle.std.specs.Cmp.Lexicographic.{pointwise, slice_cmp, nat_list_eq_equiv, nat_list_cmp_total, texts_ties, texts_po};
-ghost use Rattle.std.specs.Ordering.{nat_cmp};
+ghost use Rattle.std.specs.Prelude.{◌≡◌, ◌++◌, IfOk, IfErr, OnOk, OnErr};
 ghost use Rattle.hb_grammar.specs.Grammar.{IsFault};
 ghost use Rattle.hb_names.specs.NameError.{IsRefusal};
 ghost use Rattle.hb_names.specs.SnapName.{IsSnapName};
@@ -13,12 +10,11 @@ use crate::qualifier::qualifier_grammar;
 use hb_grammar::scan;
 use hb_wire::{Blob, Copied, NoMemory};
 use std::alloc::Global;
-use std::cmp::Ordering;
 use std::marker::Model;
 
 /// The name of a snapshot: 1 to 100 letters, digits and `_ - .`, of which the first is neither `-` nor
 /// `.` (HBase Reference Guide, Snapshots). Names are ordered as their bytes.
-#[derive(Debug, Drop)]
+#[derive(Debug, Drop, PartialEq, Eq, PartialOrd, Ord)]
 pub struct SnapName {
     text: Blob,
 }
@@ -32,6 +28,8 @@ impl Model for SnapName {
     ghost view = { λ name. name.text };
 
     ghost invariant = { λ name. IsSnapName name.text };
+
+    ghost inverse = { λ text. record { text = text } };
 }
 
 impl SnapName {
@@ -81,44 +79,6 @@ impl Copied for SnapName {
         Ok(SnapName {
             text: self.text.copy()?,
         })
-    }
-}
-
-impl PartialEq for SnapName {
-    ghost eq = { pointwise nat_eq };
-
-    ghost laws = { partial_equiv_from_equiv nat_list_eq_equiv };
-
-    fn eq(&self, other: &SnapName) -> bool {
-        self.as_slice() == other.as_slice()
-    }
-}
-
-impl Eq for SnapName {
-    ghost laws = { nat_list_eq_equiv };
-}
-
-impl PartialOrd for SnapName {
-    ghost partial_cmp = { λ x y. Some (slice_cmp nat_cmp x y) };
-
-    ghost laws = { texts_po };
-
-    fn partial_cmp(&self, other: &SnapName) -> Option<Ordering> {
-        Some(self.cmp(other))
-    }
-}
-
-impl Ord for SnapName {
-    ghost cmp = { slice_cmp nat_cmp };
-
-    ghost total = { nat_list_cmp_total };
-
-    ghost matches_partial_cmp = { λ x y. refl };
-
-    ghost matches_eq = { texts_ties };
-
-    fn cmp(&self, other: &SnapName) -> Ordering {
-        self.as_slice().cmp(other.as_slice())
     }
 }
 

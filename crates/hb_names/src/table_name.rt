@@ -1,9 +1,6 @@
 //! Names of tables.
 
-ghost use Rattle.std.specs.Prelude.{◌≡◌, ◌++◌, IfOk, IfErr, OnOk, OnErr, nat_eq, Some, refl};
-ghost use Rattle.std.specs.Cmp.{partial_equiv_from_equiv};
-ghost use Rattle.std.specs.Cmp.Lexicographic.{pointwise, slice_cmp, nat_list_eq_equiv, nat_list_cmp_total, texts_ties, texts_po};
-ghost use Rattle.std.specs.Ordering.{nat_cmp};
+ghost use Rattle.std.specs.Prelude.{◌≡◌, ◌++◌, IfOk, IfErr, OnOk, OnErr};
 ghost use Rattle.hb_grammar.specs.Grammar.{IsFault};
 ghost use Rattle.hb_names.specs.NameError.{IsRefusal};
 ghost use Rattle.hb_names.specs.TableName.{IsTableName};
@@ -13,12 +10,11 @@ use crate::qualifier::qualifier_grammar;
 use hb_grammar::scan;
 use hb_wire::{Blob, Copied, NoMemory};
 use std::alloc::Global;
-use std::cmp::Ordering;
 use std::marker::Model;
 
 /// The name of a table: 1 to 100 letters, digits and `_ - .`, of which the first is neither `-` nor `.`.
 /// Names are ordered as their bytes.
-#[derive(Debug, Drop)]
+#[derive(Debug, Drop, PartialEq, Eq, PartialOrd, Ord)]
 pub struct TableName {
     text: Blob,
 }
@@ -32,6 +28,8 @@ impl Model for TableName {
     ghost view = { λ name. name.text };
 
     ghost invariant = { λ name. IsTableName name.text };
+
+    ghost inverse = { λ text. record { text = text } };
 }
 
 impl TableName {
@@ -91,43 +89,5 @@ impl Copied for TableName {
         Ok(TableName {
             text: self.text.copy()?,
         })
-    }
-}
-
-impl PartialEq for TableName {
-    ghost eq = { pointwise nat_eq };
-
-    ghost laws = { partial_equiv_from_equiv nat_list_eq_equiv };
-
-    fn eq(&self, other: &TableName) -> bool {
-        self.as_slice() == other.as_slice()
-    }
-}
-
-impl Eq for TableName {
-    ghost laws = { nat_list_eq_equiv };
-}
-
-impl PartialOrd for TableName {
-    ghost partial_cmp = { λ x y. Some (slice_cmp nat_cmp x y) };
-
-    ghost laws = { texts_po };
-
-    fn partial_cmp(&self, other: &TableName) -> Option<Ordering> {
-        Some(self.cmp(other))
-    }
-}
-
-impl Ord for TableName {
-    ghost cmp = { slice_cmp nat_cmp };
-
-    ghost total = { nat_list_cmp_total };
-
-    ghost matches_partial_cmp = { λ x y. refl };
-
-    ghost matches_eq = { texts_ties };
-
-    fn cmp(&self, other: &TableName) -> Ordering {
-        self.as_slice().cmp(other.as_slice())
     }
 }
