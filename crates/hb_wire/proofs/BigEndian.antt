@@ -1,12 +1,13 @@
 -- Bytes that are read as a number, the highest first, are the bytes of that number.
-use Rattle.std.proofs.Common.{◌≡◌, ℕ, zero, suc, ◌+◌, ◌*◌, ◌/◌, ◌%◌, ◌^◌, ◌<◌, ◌≤◌, List, [], ◌∷◌, length, get_or, take, drop, refl, sym, ap, ◌∙◌, arith, inl, inr}
+use Rattle.std.proofs.Common.{◌≡◌, ℕ, zero, suc, ◌+◌, ◌*◌, ◌/◌, ◌%◌, ◌^◌, ◌<◌, ◌≤◌, List, [], ◌∷◌, ◌++◌, length, get_or, take, drop, refl, sym, ap, ◌∙◌, arith, inl, inr}
 use Rattle.std.proofs.Math.Nat.{mul-add-div_right, mul-add-mod_self_right, mod-eq_of_lt, mul_assoc, div-one, one-le-pow, pow-succ'}
 use Rattle.std.proofs.lemmas.Nat.{div-mul-add}
 use Rattle.std.proofs.lemmas.Bool.{cases_lt}
 use Rattle.std.proofs.lemmas.List.{get_or-drop, get_or-take, get_or_past, length-take}
 use Rattle.std.specs.Int.{byte_at, bytes_high_first}
 use Rattle.byteorder.specs.Endian.{big_from}
-use Rattle.byteorder.specs.Numbers.{big_from-cons, big_from-lt}
+use Rattle.byteorder.specs.Numbers.{big_from-cons, big_from-lt, big_number-reads_back, length-bytes_high_first}
+use Rattle.hb_wire.specs.Fixed.{be_bytes, be_number}
 
 -- each number of the list is a byte
 abbrev pub IsBytes : List ℕ → Type 0
@@ -55,3 +56,21 @@ bytes_high_first-big_from (suc n) (b ∷ bytes) long fits =
     let others : bytes_high_first n (b * 256 ^ n + big_from 0 n bytes) ≡ take n bytes =
     bytes_high_first-add n b (big_from 0 n bytes) ∙ bytes_high_first-big_from n bytes (omega arith) rest_fits in
     ap (bytes_high_first (suc n)) whole ∙ rw (top, others) refl
+
+-- ---- numbers of a fixed width
+
+pub length-be_bytes : (width n : ℕ) → length (be_bytes width n) ≡ width
+unfolding be_bytes
+length-be_bytes width n = length-bytes_high_first width n
+
+pub be_number-be_bytes : (width n : ℕ) (rest : List ℕ) → n < 256 ^ width → be_number width (be_bytes width n ++ rest) ≡ n
+unfolding be_bytes be_number
+be_number-be_bytes width n rest fits = big_number-reads_back width n rest fits
+
+pub be_number-lt : (width : ℕ) (bytes : List ℕ) → IsBytes bytes → be_number width bytes < 256 ^ width
+unfolding be_number
+be_number-lt width bytes fits = big_from-lt 0 width bytes fits
+
+pub be_bytes-be_number : (width : ℕ) (bytes : List ℕ) → width ≤ length bytes → IsBytes bytes → be_bytes width (be_number width bytes) ≡ take width bytes
+unfolding be_bytes be_number
+be_bytes-be_number width bytes long fits = bytes_high_first-big_from width bytes long fits

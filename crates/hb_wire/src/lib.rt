@@ -1,4 +1,5 @@
-//! Byte strings and lists as values, how a value that is kept twice is copied, and numbers of variable length.
+//! Byte strings and lists as values, how a value that is kept twice is copied, and numbers of
+//! fixed and of variable length.
 //!
 //! A contract sees a [`blob::Blob`] as its bytes and an [`items::Items`] as its list, so that the
 //! values of every crate above can be compared with what a definition says.
@@ -6,11 +7,13 @@
 
 pub mod blob;
 pub mod copied;
+pub mod fixed;
 pub mod items;
 pub mod vlong;
 
 pub use blob::Blob;
 pub use copied::Copied;
+pub use fixed::{put_u16, put_u32, put_u64};
 pub use items::Items;
 pub use vlong::{WireError, get_vlong, put_vlong};
 
@@ -26,11 +29,24 @@ mod tests {
     fn keeps_bytes(rt: HostRuntime) -> Result<(), Fail> {
         let mut blob = Blob::copy_of(rt.alloc(), b"ab")?;
         let copy = blob.copy()?;
-        blob.add(b"c")?;
+        blob.add(b"cd")?;
+        blob.truncate(3);
+        assert_eq!(rt; blob.len(), 3);
+        assert!(rt; !blob.is_empty());
         assert_eq!(rt; blob.as_slice(), b"abc".as_slice());
         assert_eq!(rt; copy.as_slice(), b"ab".as_slice());
         let bytes = blob.into_vec();
         assert_eq!(rt; Blob::from_vec(bytes).as_slice(), b"abc".as_slice());
+        Ok(())
+    }
+
+    #[test]
+    fn adds_fixed_numbers(rt: HostRuntime) -> Result<(), Fail> {
+        let mut out = Blob::copy_of(rt.alloc(), b"")?;
+        put_u16(&mut out, 0x0102)?;
+        put_u32(&mut out, 3)?;
+        put_u64(&mut out, 4)?;
+        assert_eq!(rt; out.as_slice(), &[1, 2, 0, 0, 0, 3, 0, 0, 0, 0, 0, 0, 0, 4]);
         Ok(())
     }
 
