@@ -3,7 +3,7 @@ use Rattle.std.proofs.Common.{◌≡◌, ℕ, suc, ◌+◌, ◌-◌, ◌^◌, �
 use Rattle.std.specs.Prelude.{FitsSigned, IfOk}
 use Rattle.std.specs.Int.{w64, bytes_high_first}
 use Rattle.std.proofs.lemmas.Bool.{cases_lt, lt-ltb, le-ltb, ltb-true, ltb-false, leb-false, eqb-true, lt-leb, eq-eqb, or_parts, not-false, cond_both}
-use Rattle.std.proofs.lemmas.List.{take-append-drop, drop-drop, length-append}
+use Rattle.std.proofs.lemmas.List.{take-append-drop, drop-drop, length-append, length-drop}
 use Rattle.byteorder.specs.Endian.{big_from}
 use Rattle.byteorder.specs.Numbers.{big_number-reads_back, length-bytes_high_first}
 use Rattle.hb_wire.specs.declared.vlong.WireError.{WireError}
@@ -218,3 +218,12 @@ found_vlong bytes at (Err d) fits e = tt
 found_vlong bytes at (Ok x) fits e =
     let is = IsVlong-vlong_at (drop at bytes) x.0 x.1 (IsBytes-drop at bytes fits) (sym e) in
     (is.fits, is.parts ∙ ap (λ (r : List ℕ). vlong x.0 ++ r) (drop-drop x.1 at bytes))
+
+-- a number that was read lies within the bytes
+pub within_vlong : (bytes : List ℕ) (at : ℕ) (r : Result (ℤ × ℕ) WireError) → IsBytes bytes → at ≤ length bytes → r ≡ vlong_at (drop at bytes)
+    → IfOk r (λ x. at + x.1 ≤ length bytes)
+within_vlong bytes at (Err d) fits inside e = tt
+within_vlong bytes at (Ok x) fits inside e =
+    let is = IsVlong-vlong_at (drop at bytes) x.0 x.1 (IsBytes-drop at bytes fits) (sym e) in
+    let long : x.1 ≤ length (drop at bytes) = is.long in
+    omega (arith, length-drop at bytes)

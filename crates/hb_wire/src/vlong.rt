@@ -87,6 +87,7 @@ pub fn get_vlong(bytes: &[u8], at: usize) -> Result<(i64, usize), WireError>
     requires { at ≤ length bytes.now }
     // Which number it is, or which fault.
     ensures exact { result ≡ vlong_at (drop at bytes.now) }
+    ensures within { IfOk result (λ x. at + x.1 ≤ length bytes.now) }
     // What is read is spelled so.
     ensures found { IfOk result (λ x. FitsSigned w64 x.0 × (drop at bytes.now ≡ vlong x.0 ++ drop (at + x.1) bytes.now)) }
     // What is spelled so is read.
