@@ -1,0 +1,4 @@
+pub mod Taking
+pub mod Keys
+pub mod Parts
+pub mod Cells
