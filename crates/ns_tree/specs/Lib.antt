@@ -1,4 +1,6 @@
 pub mod Coded
-pub mod Places
-pub mod Tree
 pub mod MemStore
+pub mod Namespace
+pub mod Places
+pub mod Step
+pub mod Tree
