@@ -30,7 +30,7 @@ pub is_within-same : (place : List ℕ) → is_within place place ≡ true
 is_within-same place = or_left _ _ (nat_list_eq_equiv.refl place)
 
 -- a test that a key passes finds one
-list_any-tied : (p : List ℕ → Bool) (q : List ℕ) (ks : List (List ℕ)) → list_any (eq_by_cmp (slice_cmp nat_cmp) q) ks ≡ true → p q ≡ true → list_any p ks ≡ true
+pub list_any-tied : (p : List ℕ → Bool) (q : List ℕ) (ks : List (List ℕ)) → list_any (eq_by_cmp (slice_cmp nat_cmp) q) ks ≡ true → p q ≡ true → list_any p ks ≡ true
 list_any-tied p q [] has is = cc
 list_any-tied p q (k ∷ ks) has is =
     elim (cases_Bool (eq_by_cmp (slice_cmp nat_cmp) q k)) as (λ _. (p k || list_any p ks) ≡ true) [
@@ -46,12 +46,12 @@ pub any_key-none : (p : List ℕ → Bool) (tree : Tree) (q : List ℕ) → list
 any_key-none p tree q none has = false_from_ne_true (p q) (λ is. true≢false (sym (any_key-from p tree q has is) ∙ none))
 
 -- a key that a test finds
-record Found (p : List ℕ → Bool) (ks : List (List ℕ)) : Type 0 where
-  at : List ℕ
-  among : list_any (eq_by_cmp (slice_cmp nat_cmp) at) ks ≡ true
-  passes : p at ≡ true
+pub record Found (p : List ℕ → Bool) (ks : List (List ℕ)) : Type 0 where
+  pub at : List ℕ
+  pub among : list_any (eq_by_cmp (slice_cmp nat_cmp) at) ks ≡ true
+  pub passes : p at ≡ true
 
-found : (p : List ℕ → Bool) (ks : List (List ℕ)) → list_any p ks ≡ true → Found p ks
+pub found : (p : List ℕ → Bool) (ks : List (List ℕ)) → list_any p ks ≡ true → Found p ks
 found p [] is = absurd (true≢false (sym is))
 found p (k ∷ ks) is =
     elim (cases_Bool (p k)) as (λ _. Found p (k ∷ ks)) [

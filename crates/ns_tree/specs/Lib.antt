@@ -1,5 +1,6 @@
 pub mod Coded
 pub mod MemStore
+pub mod Moves
 pub mod Namespace
 pub mod Places
 pub mod Step

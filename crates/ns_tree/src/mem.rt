@@ -3,7 +3,7 @@ ghost use Rattle.std.specs.Prelude.{◌≡◌, ◌≤◌, ◌⊎◌, ◌↔◌, 
 ghost use Rattle.std.specs.FinMap as map;
 ghost use Rattle.ns_tree.specs.MemStore.{is_failing_read, after_read, write_fate, after_write};
 ghost use Rattle.ns_tree.specs.Namespace.{IsDone, IsRefused, is_create_error, is_change_error, bytes_at, stat_of};
-ghost use Rattle.ns_tree.specs.Step.{Create, Append, Delete, Touch};
+ghost use Rattle.ns_tree.specs.Step.{Create, Append, Rename, Delete, Touch};
 ghost use Rattle.ns_tree.specs.Tree.{listing};
 
 use crate::file::Stat;
@@ -151,6 +151,26 @@ impl Namespace for MemNs {
             Some(false) => Err(NsError::Failed),
             Some(true) => {
                 let _ = self.tree.append(place, bytes);
+                Err(NsError::Failed)
+            }
+        }
+    }
+
+    fn rename(&mut self, from: &Place, to: &Place) -> Result<(), NsError>
+        ensures done { OnOk result (IsDone (Rename from.now to.now) (Some self.old.tree) (Some self.new.tree)) }
+        ensures refused { IfErr result (λ error. IsRefused (Rename from.now to.now) error (Some self.old.tree) (Some self.new.tree)) }
+
+        // Exactly when it fails, what stands after a failure without effect, and what is counted.
+        ensures fails { IsErrOf result NsError.Failed ↔ IsSome (write_fate self.old) }
+        ensures idle { write_fate self.old ≡ Some false → self.new.tree ≡ self.old.tree }
+        ensures counted { self.new ≡ after_write self.new.tree self.old }
+        ensures later { self.old.faults ≤ self.new.faults }
+    {
+        match self.count_write() {
+            None => self.tree.rename(from, to),
+            Some(false) => Err(NsError::Failed),
+            Some(true) => {
+                let _ = self.tree.rename(from, to);
                 Err(NsError::Failed)
             }
         }

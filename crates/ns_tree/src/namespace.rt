@@ -3,7 +3,7 @@ ghost use Rattle.std.specs.Prelude.{◌≡◌, ◌≤◌, ◌⊎◌, ℕ, Option
 ghost use Rattle.std.specs.FinMap as map;
 ghost use Rattle.hb_causes.specs.Faults.{Rose};
 ghost use Rattle.ns_tree.specs.Namespace.{IsDone, IsRefused, is_create_error, is_change_error, bytes_at, stat_of};
-ghost use Rattle.ns_tree.specs.Step.{Create, Append, Delete, Touch};
+ghost use Rattle.ns_tree.specs.Step.{Create, Append, Rename, Delete, Touch};
 ghost use Rattle.ns_tree.specs.Tree.{Tree, listing};
 
 use crate::file::Stat;
@@ -66,6 +66,15 @@ pub trait Namespace {
         ensures done { OnOk result (IsDone (Append place.now bytes.now) (told self.old) (told self.new)) }
         ensures refused { IfErr result (λ error. IsRefused (Append place.now bytes.now) error (told self.old) (told self.new)) }
         ensures only { IfErr result (λ error. IsTrue (is_change_error error)) }
+        ensures failed { IsErrOf result NsError.Failed → Rose (faults self.old) (faults self.new) }
+        ensures later { faults self.old ≤ faults self.new };
+
+    /// Moves a file, or all files below a directory, with their bytes and moments. `Missing`: nothing stands at
+    /// or below `from`. `Inside`: `to` lies below `from`, or a file would have more than 16 components.
+    /// `Exists`: something stands at or below `to`. `BelowFile`: `to` lies below a file.
+    fn rename(&mut self, from: &Place, to: &Place) -> Result<(), NsError>
+        ensures done { OnOk result (IsDone (Rename from.now to.now) (told self.old) (told self.new)) }
+        ensures refused { IfErr result (λ error. IsRefused (Rename from.now to.now) error (told self.old) (told self.new)) }
         ensures failed { IsErrOf result NsError.Failed → Rose (faults self.old) (faults self.new) }
         ensures later { faults self.old ≤ faults self.new };
 

@@ -1,13 +1,17 @@
 //! The files of a store, as a value.
-ghost use Rattle.std.specs.Prelude.{◌≡◌, ◌⊎◌, ◌++◌, IsTrue, IfOk, IfErr, OnOk, OnErr, Some, None, option_copied, option_map, take, drop};
+ghost use Rattle.std.specs.Prelude.{◌≡◌, ◌⊎◌, ℕ, List, All, true, ◌++◌, IsTrue, IfOk, IfErr, OnOk, OnErr, Some, None, option_copied, option_map, take, drop};
+ghost use Rattle.ns_tree.specs.Moves.{IsMove, is_source};
+ghost use Rattle.ns_tree.specs.Places.{is_within};
 ghost use Rattle.ns_tree.specs.Namespace.{bytes_at, stat_of};
-ghost use Rattle.ns_tree.specs.Step.{Create, Append, Delete, Touch, step, refusal, change_refusal};
+ghost use Rattle.ns_tree.specs.Step.{Create, Append, Rename, Delete, Touch, step, refusal, change_refusal, rename_refusal};
 ghost use Rattle.std.specs.FinMap as map;
 ghost use Rattle.ns_tree.specs.Tree.{listing, create_refusal};
 
 use crate::file::{FileState, Stat};
 use crate::files::Files;
+use crate::moves::{Move, has_too_deep, moves};
 use crate::namespace::NsError;
+use crate::places::is_below;
 use bytes::Bytes;
 use hb_names::Place;
 use hb_wire::{Copied, Items, NoMemory};
@@ -130,6 +134,39 @@ impl Tree {
     {
         self.files.put(place.as_blob().copy()?, file)?;
         Ok(())
+    }
+
+    /// Moves a file, or all files below a directory, with their bytes and moments.
+    pub(crate) fn rename(&mut self, from: &Place, to: &Place) -> Result<(), NsError>
+        ensures ok { OnOk result (self.new ≡ step (Rename from.now to.now) self.old) }
+        ensures free { OnOk result (refusal (Rename from.now to.now) self.old ≡ None) }
+        ensures refused { IfErr result (λ error. (error ≡ NsError.NoMemory) ⊎ (refusal (Rename from.now to.now) self.old ≡ Some error)) }
+        ensures err { OnErr result (self.new ≡ self.old) }
+    {
+        let moves = self.plan(from, to)?;
+        self.files.move_all(from, to, moves.as_slice())?;
+        Ok(())
+    }
+
+    // The moves of a rename that nothing refuses.
+    fn plan(&self, from: &Place, to: &Place) -> Result<Vec<Move>, NsError>
+        ensures free { IfOk result (λ moves. rename_refusal from.now to.now self.now ≡ None) }
+        ensures each { IfOk result (λ moves. All (IsMove from.now to.now self.now) moves.items) }
+        ensures whole { IfOk result (λ moves. (q : List ℕ) → is_within from.now q ≡ true → map.contains_key self.now q ≡ true → is_source moves.items q ≡ true) }
+        ensures refused { IfErr result (λ error. (error ≡ NsError.NoMemory) ⊎ (rename_refusal from.now to.now self.now ≡ Some error)) }
+    {
+        let sources = self.files.sources(from)?;
+        if sources.is_empty() {
+            return Err(NsError::Missing);
+        }
+        let moves = moves(self.files.allocator(), from, to, &sources)?;
+        if is_below(from.as_slice(), to.as_slice()) || has_too_deep(moves.as_slice()) {
+            return Err(NsError::Inside);
+        }
+        match self.check_free(to) {
+            Ok(()) => Ok(moves),
+            Err(error) => Err(error),
+        }
     }
 
     /// Removes a file.
