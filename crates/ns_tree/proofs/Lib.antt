@@ -1,5 +1,6 @@
 pub mod Below
 pub mod Entries
+pub mod Laws
 pub mod Leads
 pub mod Moved
 pub mod Renaming

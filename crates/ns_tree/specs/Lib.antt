@@ -1,3 +1,4 @@
+pub mod Apart
 pub mod Coded
 pub mod MemStore
 pub mod Moves
