@@ -1,6 +1,6 @@
 -- The entries of a sorted map as a tree.
 use Rattle.std.proofs.Common.{◌≡◌, ℕ, List, [], ◌∷◌, ◌++◌, Option, Some, None, Bool, true, false, ◌&&◌, ◌||◌, T, cond, nat_eq, refl, sym, ap, subst, ◌∙◌, nat_cmp, codes}
-use Rattle.std.specs.FinMap.{get, insert, get-insert, find, from_entries, from_sorted, entries, keys, contains_key, contains_key-keys, is_sorted, same_map, get-from_entries, get-from_sorted, entries-from_sorted, nat_cmp-IsAntisymmetric, slice_cmp-IsAntisymmetric}
+use Rattle.std.specs.FinMap.{get, insert, remove, get-insert, get-remove, find, from_entries, from_sorted, entries, keys, contains_key, contains_key-keys, is_sorted, same_map, get-from_entries, get-from_sorted, entries-from_sorted, nat_cmp-IsAntisymmetric, slice_cmp-IsAntisymmetric}
 use Rattle.std.specs.FinMap.Entries.{below_all}
 use Rattle.std.specs.List.{filter, list_any, AllByRecursion}
 use Rattle.std.specs.List.Sorted.{IsStrictlySortedBy}
@@ -106,3 +106,10 @@ pub insert_from_entries : (es fs : Files) (p : List ℕ) (f : FileState) → ((q
 insert_from_entries es fs p f h = same_map nat_list_cmp_total (slice_cmp-IsAntisymmetric nat_cmp-IsAntisymmetric) _ _ (λ q.
     get_file fs q ∙ h q ∙ ap (λ b. cond b (Some f) (lookup (is_at (slice_cmp nat_cmp q)) es)) ((eq_by_cmp_equiv nat_list_cmp_total).symm p q)
     ∙ sym (get-insert nat_list_cmp_total (from_entries es) p f q ∙ ap (cond (is_at (slice_cmp nat_cmp q) p) (Some f)) (get_file es q)))
+
+-- the same where they have none
+pub remove_from_entries : (es fs : Files) (p : List ℕ) → ((q : List ℕ) → lookup (is_at (slice_cmp nat_cmp q)) fs ≡ cond (is_at (slice_cmp nat_cmp p) q) None (lookup (is_at (slice_cmp nat_cmp q)) es))
+    → from_entries {R = slice_cmp nat_cmp} fs ≡ remove (from_entries es) p
+remove_from_entries es fs p h = same_map nat_list_cmp_total (slice_cmp-IsAntisymmetric nat_cmp-IsAntisymmetric) _ _ (λ q.
+    get_file fs q ∙ h q ∙ ap (λ b. cond b None (lookup (is_at (slice_cmp nat_cmp q)) es)) ((eq_by_cmp_equiv nat_list_cmp_total).symm p q)
+    ∙ sym (get-remove nat_list_cmp_total (from_entries es) p q ∙ ap (cond (is_at (slice_cmp nat_cmp q) p) None) (get_file es q)))

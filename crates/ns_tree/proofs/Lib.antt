@@ -1,3 +1,7 @@
 pub mod Below
 pub mod Entries
+pub mod Laws
+pub mod Leads
+pub mod Moved
+pub mod Renaming
 pub mod Trees

@@ -1,6 +1,6 @@
 -- The files of a tree, and what every tree keeps.
-use Rattle.std.proofs.Common.{◌≡◌, ℕ, List, [], ◌∷◌, ◌++◌, Bool, true, false, ◌||◌, cond, IsTrue, Option, Some, None, refl, ap, sym, subst, inl, inr, ◌∙◌, is_some, nat_cmp, nat_eq, codes, length, take, get_or, ◌<◌, ◌≤◌, ◌+◌, arith}
-use Rattle.std.specs.FinMap.{empty, get, get-empty, insert, get-insert, keys, contains_key, contains_key-keys, from_entries, nat_cmp-IsAntisymmetric, slice_cmp-IsAntisymmetric}
+use Rattle.std.proofs.Common.{◌≡◌, ℕ, List, [], ◌∷◌, ◌++◌, Bool, true, false, ◌||◌, ◌&&◌, not, cond, IsTrue, Option, Some, None, refl, ap, sym, subst, inl, inr, ◌∙◌, is_some, nat_cmp, nat_eq, codes, length, take, get_or, ◌<◌, ◌≤◌, ◌+◌, arith}
+use Rattle.std.specs.FinMap.{empty, get, get-empty, insert, get-insert, remove, get-remove, keys, contains_key, contains_key-keys, from_entries, nat_cmp-IsAntisymmetric, slice_cmp-IsAntisymmetric}
 use Rattle.std.specs.List.{list_any}
 use Rattle.std.specs.List.Sorted.{IsStrictlySortedBy}
 use Rattle.std.specs.Map.{lookup, keys_of}
@@ -10,12 +10,11 @@ use Rattle.std.specs.Cmp.{Equal-is}
 use Rattle.std.specs.Cmp.Lexicographic.{slice_cmp, pointwise, texts_ties, nat_list_eq_equiv, nat_list_cmp_total}
 use Rattle.std.specs.Ordering.{eq_by_cmp}
 use Rattle.std.specs.declared.ops.Bound.TheVariants.{Included, Unbounded}
-use Rattle.std.proofs.lemmas.Bool.{true≢false, cases_Bool, cases_lt, or_left, or_right, or_from, or_cases, false_from_ne_true}
+use Rattle.std.proofs.lemmas.Bool.{true≢false, cases_Bool, cases_lt, or_left, or_right, or_from, or_cases, and_parts, false_from_ne_true}
 use Rattle.ns_tree.specs.declared.file.FileState.{FileState}
 use Rattle.ns_tree.specs.declared.namespace.NsError.TheVariants.{Exists, BelowFile}
-use Rattle.hb_names.specs.Place.{IsPlace}
 use Rattle.ns_tree.specs.Places.{is_below, is_within}
-use Rattle.ns_tree.specs.Tree.{Tree, IsTree, is_taken, is_below_file, create_refusal}
+use Rattle.ns_tree.specs.Tree.{Tree, HasNoFileBelowAFile, is_taken, is_below_file, create_refusal}
 use Rattle.ns_tree.proofs.Below.{first_passes, is_below-take, is_below-same, IsFront-is_below}
 use Rattle.ns_tree.proofs.Entries.{Files, get_file, is_taken-first}
 
@@ -31,7 +30,7 @@ pub is_within-same : (place : List ℕ) → is_within place place ≡ true
 is_within-same place = or_left _ _ (nat_list_eq_equiv.refl place)
 
 -- a test that a key passes finds one
-list_any-tied : (p : List ℕ → Bool) (q : List ℕ) (ks : List (List ℕ)) → list_any (eq_by_cmp (slice_cmp nat_cmp) q) ks ≡ true → p q ≡ true → list_any p ks ≡ true
+pub list_any-tied : (p : List ℕ → Bool) (q : List ℕ) (ks : List (List ℕ)) → list_any (eq_by_cmp (slice_cmp nat_cmp) q) ks ≡ true → p q ≡ true → list_any p ks ≡ true
 list_any-tied p q [] has is = cc
 list_any-tied p q (k ∷ ks) has is =
     elim (cases_Bool (eq_by_cmp (slice_cmp nat_cmp) q k)) as (λ _. (p k || list_any p ks) ≡ true) [
@@ -47,12 +46,12 @@ pub any_key-none : (p : List ℕ → Bool) (tree : Tree) (q : List ℕ) → list
 any_key-none p tree q none has = false_from_ne_true (p q) (λ is. true≢false (sym (any_key-from p tree q has is) ∙ none))
 
 -- a key that a test finds
-record Found (p : List ℕ → Bool) (ks : List (List ℕ)) : Type 0 where
-  at : List ℕ
-  among : list_any (eq_by_cmp (slice_cmp nat_cmp) at) ks ≡ true
-  passes : p at ≡ true
+pub record Found (p : List ℕ → Bool) (ks : List (List ℕ)) : Type 0 where
+  pub at : List ℕ
+  pub among : list_any (eq_by_cmp (slice_cmp nat_cmp) at) ks ≡ true
+  pub passes : p at ≡ true
 
-found : (p : List ℕ → Bool) (ks : List (List ℕ)) → list_any p ks ≡ true → Found p ks
+pub found : (p : List ℕ → Bool) (ks : List (List ℕ)) → list_any p ks ≡ true → Found p ks
 found p [] is = absurd (true≢false (sym is))
 found p (k ∷ ks) is =
     elim (cases_Bool (p k)) as (λ _. Found p (k ∷ ks)) [
@@ -77,12 +76,14 @@ is_taken-range tree es range place start view sorted absent first is =
     ∙ is_taken-first place es sorted (ap (λ t. contains_key t place) view ∙ absent)
     ∙ ap (λ r. first_passes (is_below place) (keys_of r)) (ap (λ s. entries_between (slice_cmp nat_cmp) (Included s) Unbounded es) (sym first) ∙ sym is)
 
--- the tree of no files keeps all
-pub IsTree-empty : IsTree empty
-IsTree-empty = record {
-  apart = λ file place stands below. ap is_some (get-empty {X = FileState} (slice_cmp nat_cmp) place);
-  placed = λ place stands. absurd (true≢false (sym stands ∙ ap is_some (get-empty {X = FileState} (slice_cmp nat_cmp) place)));
-}
+-- no file stands in the tree of no files
+pub HasNoFileBelowAFile-empty : HasNoFileBelowAFile empty
+HasNoFileBelowAFile-empty above below stands lies = ap is_some (get-empty {X = FileState} (slice_cmp nat_cmp) below)
+
+-- fewer files keep it
+pub HasNoFileBelowAFile-fewer : (old new : Tree) → ((q : List ℕ) → contains_key new q ≡ true → contains_key old q ≡ true) → HasNoFileBelowAFile old → HasNoFileBelowAFile new
+HasNoFileBelowAFile-fewer old new fewer kept above below stands lies =
+    false_from_ne_true _ (λ other. true≢false (sym (fewer below other) ∙ kept above below (fewer above stands) lies))
 
 -- no file stands at a directory above a place that is shorter than i
 abbrev pub HasNoFileAbove : Tree → List ℕ → ℕ → Type 0
@@ -139,30 +140,35 @@ IsFree-from_no_refusal place tree none = record { untaken = first (is_taken plac
     second false false none = refl
 
 -- a file that is put where one can be made has none below it and lies below none
-pub IsTree-insert : (tree : Tree) (place : List ℕ) (file : FileState) → IsTree tree → IsPlace place → create_refusal place tree ≡ None → IsTree (insert tree place file)
-IsTree-insert tree place file old valid none = record { apart = apart; placed = placed }
+pub HasNoFileBelowAFile-insert : (tree : Tree) (place : List ℕ) (file : FileState) → HasNoFileBelowAFile tree → create_refusal place tree ≡ None → HasNoFileBelowAFile (insert tree place file)
+HasNoFileBelowAFile-insert tree place file old none above below stands lies =
+    let free : IsFree place tree = IsFree-from_no_refusal place tree none in
+    contains_key-insert tree place file below ∙ elim (or_cases (eq_by_cmp (slice_cmp nat_cmp) above place) (contains_key tree above) (sym (contains_key-insert tree place file above) ∙ stands)) as (λ _. (eq_by_cmp (slice_cmp nat_cmp) below place || contains_key tree below) ≡ false) [
+      | inl here ↦
+          let within : is_below place below ≡ true = subst (λ q. is_below q below ≡ true) (same_text above place here) lies in
+          or_from _ _
+          (false_from_ne_true _ (λ tied. true≢false (sym (subst (λ q. is_below place q ≡ true) (same_text below place tied) within) ∙ is_below-same place)))
+          (false_from_ne_true _ (λ other. true≢false (sym (or_right _ _ within) ∙ any_key-none (is_within place) tree below free.untaken other)))
+      | inr there ↦ or_from _ _
+          (false_from_ne_true _ (λ tied. true≢false (sym (subst (λ q. is_below above q ≡ true) (same_text below place tied) lies) ∙ any_key-none (λ q. is_below q place) tree above free.unfiled there)))
+          (old above below there lies)
+    ]
+
+-- a file that is put in another's place
+pub HasNoFileBelowAFile-replace : (tree : Tree) (place : List ℕ) (file : FileState) → contains_key tree place ≡ true → HasNoFileBelowAFile tree → HasNoFileBelowAFile (insert tree place file)
+HasNoFileBelowAFile-replace tree place file stood = HasNoFileBelowAFile-fewer tree (insert tree place file) (λ q stands.
+    elim (or_cases (eq_by_cmp (slice_cmp nat_cmp) q place) (contains_key tree q) (sym (contains_key-insert tree place file q) ∙ stands)) as (λ _. contains_key tree q ≡ true) [
+      | inl here ↦ ap (contains_key tree) (same_text q place here) ∙ stood
+      | inr there ↦ there
+    ])
+
+-- where a file is taken away
+pub contains_key-remove : (tree : Tree) (place q : List ℕ) → contains_key (remove tree place) q ≡ (not (eq_by_cmp (slice_cmp nat_cmp) q place) && contains_key tree q)
+contains_key-remove tree place q = ap is_some (get-remove nat_list_cmp_total tree place q) ∙ by_key (eq_by_cmp (slice_cmp nat_cmp) q place) (get tree q)
   where
-    free : IsFree place tree
-    free = IsFree-from_no_refusal place tree none
+    by_key : (b : Bool) (o : Option FileState) → is_some (cond b None o) ≡ (not b && is_some o)
+    by_key true o = refl
+    by_key false o = refl
 
-    elsewhere : (above below : List ℕ) → contains_key tree above ≡ true → is_below above below ≡ true → eq_by_cmp (slice_cmp nat_cmp) below place ≡ false
-    elsewhere above below stands lies = false_from_ne_true _ (λ tied.
-        true≢false (sym (subst (λ q. is_below above q ≡ true) (same_text below place tied) lies) ∙ any_key-none (λ q. is_below q place) tree above free.unfiled stands))
-
-    apart : (above below : List ℕ) → IsTrue (contains_key (insert tree place file) above) → IsTrue (is_below above below) → contains_key (insert tree place file) below ≡ false
-    apart above below stands lies =
-        contains_key-insert tree place file below ∙ elim (or_cases (eq_by_cmp (slice_cmp nat_cmp) above place) (contains_key tree above) (sym (contains_key-insert tree place file above) ∙ stands)) as (λ _. (eq_by_cmp (slice_cmp nat_cmp) below place || contains_key tree below) ≡ false) [
-          | inl here ↦
-              let within : is_below place below ≡ true = subst (λ q. is_below q below ≡ true) (same_text above place here) lies in
-              or_from _ _
-              (false_from_ne_true _ (λ tied. true≢false (sym (subst (λ q. is_below place q ≡ true) (same_text below place tied) within) ∙ is_below-same place)))
-              (false_from_ne_true _ (λ other. true≢false (sym (or_right _ _ within) ∙ any_key-none (is_within place) tree below free.untaken other)))
-          | inr there ↦ or_from _ _ (elsewhere above below there lies) (old.apart above below there lies)
-        ]
-
-    placed : (q : List ℕ) → IsTrue (contains_key (insert tree place file) q) → ∥ IsPlace q ∥₁
-    placed q stands =
-        elim (or_cases (eq_by_cmp (slice_cmp nat_cmp) q place) (contains_key tree q) (sym (contains_key-insert tree place file q) ∙ stands)) as (λ _. ∥ IsPlace q ∥₁) [
-          | inl here ↦ ∣ subst IsPlace (sym (same_text q place here)) valid ∣₁
-          | inr there ↦ old.placed q there
-        ]
+pub HasNoFileBelowAFile-remove : (tree : Tree) (place : List ℕ) → HasNoFileBelowAFile tree → HasNoFileBelowAFile (remove tree place)
+HasNoFileBelowAFile-remove tree place = HasNoFileBelowAFile-fewer tree (remove tree place) (λ q stands. (and_parts (not (eq_by_cmp (slice_cmp nat_cmp) q place)) (contains_key tree q) (sym (contains_key-remove tree place q) ∙ stands)).1)

@@ -1,4 +1,8 @@
+pub mod Apart
 pub mod Coded
-pub mod Places
-pub mod Tree
 pub mod MemStore
+pub mod Moves
+pub mod Namespace
+pub mod Places
+pub mod Step
+pub mod Tree

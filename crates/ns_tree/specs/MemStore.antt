@@ -1,7 +1,7 @@
 -- A store in memory: its tree, and which of its calls fail.
-use Rattle.std.specs.Prelude.{ℕ, List, Bool, cond, ◌==◌, refl}
+use Rattle.std.specs.Prelude.{ℕ, List, Bool, cond, ◌==◌, Option, option_map, is_some, refl}
 use Rattle.std.specs.Coded.{Coded, code_by, coded×, coded_ℕ, coded_bool, coded_list}
-use Rattle.std.specs.List.{list_any}
+use Rattle.std.specs.List.{list_any, find}
 use Rattle.hb_causes.specs.Faults.{next}
 use Rattle.ns_tree.specs.Tree.{Tree}
 use Rattle.ns_tree.specs.Coded.{tree_code}
@@ -32,3 +32,11 @@ is_failing_read m = list_any (λ n. n == next m.read) m.reads
 -- after a reading call: the tree stays
 abbrev pub after_read : MemStore → MemStore
 after_read m = record m { read = next m.read; faults = cond (is_failing_read m) (next m.faults) m.faults }
+
+-- whether the next writing call fails, and then whether it takes effect: the first pair with its number says
+abbrev pub write_fate : MemStore → Option Bool
+write_fate m = option_map (λ w. w.1) (find (λ w. w.0 == next m.written) m.writes)
+
+-- after a writing call that left this tree
+abbrev pub after_write : Tree → MemStore → MemStore
+after_write tree m = record m { tree = tree; written = next m.written; faults = cond (is_some (write_fate m)) (next m.faults) m.faults }

@@ -7,7 +7,6 @@ use Rattle.std.specs.Cmp.Lexicographic.{slice_cmp}
 use Rattle.ns_tree.specs.declared.file.FileState.{FileState}
 use Rattle.ns_tree.specs.declared.namespace.NsError.{NsError}
 use Rattle.ns_tree.specs.declared.namespace.NsError.TheVariants.{Exists, BelowFile}
-use Rattle.hb_names.specs.Place.{IsPlace}
 use Rattle.ns_tree.specs.Places.{is_below, is_within}
 
 -- the map
@@ -34,12 +33,3 @@ create_refusal place tree = cond (is_taken place tree) (Some Exists) (cond (is_b
 abbrev pub listing : Option (List ℕ) → Tree → List (List ℕ)
 listing None tree = keys tree
 listing (Some dir) tree = filter (is_below dir) (keys tree)
-
--- every file stands at a place
-abbrev pub HasPlaces : Tree → Type 0
-HasPlaces tree = (place : List ℕ) → IsTrue (contains_key tree place) → ∥ IsPlace place ∥₁
-
--- what every tree of files keeps
-pub record IsTree (tree : Tree) : Type 0 where
-  pub apart : HasNoFileBelowAFile tree
-  pub placed : HasPlaces tree

@@ -33,7 +33,7 @@ impl Model for Files {
     ghost view = { λ f. map.from_entries f.files.entries };
 }
 
-#[tactic(auto, using(crate::proofs::Entries::get_file, crate::proofs::Entries::insert_from_entries))]
+#[tactic(auto, using(crate::proofs::Entries::get_file, crate::proofs::Entries::insert_from_entries, crate::proofs::Entries::remove_from_entries))]
 impl Files {
     pub(crate) fn new(alloc: Global) -> Files
         ensures { result ≡ map.empty }
@@ -64,6 +64,17 @@ impl Files {
             Ok(_) => Ok(()),
             Err(_) => Err(AllocError),
         }
+    }
+
+    /// Takes the file at a text away, if one is there.
+    pub(crate) fn take(&mut self, text: &Blob)
+        ensures { self.new ≡ map.remove self.old text.now }
+    {
+        self.files.remove(text);
+    }
+
+    pub(crate) fn allocator(&self) -> Global {
+        self.alloc
     }
 
     /// Whether a file stands at a place or below it.

@@ -7,6 +7,7 @@
 pub mod file;
 mod files;
 pub mod mem;
+mod moves;
 pub mod namespace;
 mod places;
 pub mod tree;

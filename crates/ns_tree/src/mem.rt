@@ -1,10 +1,15 @@
 //! A store in memory.
-ghost use Rattle.std.specs.Prelude.{◌≡◌, ◌≤◌, ◌⊎◌, ◌↔◌, Some, IfOk, IfErr, IsErrOf, IsTrue, option_copied};
-ghost use Rattle.ns_tree.specs.MemStore.{is_failing_read, after_read};
+ghost use Rattle.std.specs.Prelude.{◌≡◌, ◌≤◌, ◌⊎◌, ◌↔◌, Some, None, false, IfOk, OnOk, IfErr, IsErrOf, IsSome, IsTrue, length, option_copied, option_map};
+ghost use Rattle.std.specs.FinMap as map;
+ghost use Rattle.ns_tree.specs.MemStore.{is_failing_read, after_read, write_fate, after_write};
+ghost use Rattle.ns_tree.specs.Namespace.{IsDone, IsRefused, is_create_error, is_change_error, bytes_at, stat_of};
+ghost use Rattle.ns_tree.specs.Step.{Create, Append, Rename, Delete, Touch};
 ghost use Rattle.ns_tree.specs.Tree.{listing};
 
+use crate::file::Stat;
 use crate::namespace::{Namespace, NsError};
 use crate::tree::Tree;
+use bytes::Bytes;
 use hb_names::Place;
 use hb_wire::Items;
 use std::marker::Model;
@@ -77,10 +82,170 @@ impl MemNs {
     }
 }
 
+impl MemNs {
+    // Counts a writing call. It fails where there is an answer: whether it takes effect all the same.
+    fn count_write(&mut self) -> Option<bool>
+        ensures fate { result ≡ write_fate self.old }
+        ensures step { self.new ≡ after_write self.old.tree self.old }
+        ensures later { self.old.faults ≤ self.new.faults }
+    {
+        let fate = self.write_fate();
+        self.written = self.written.saturating_add(1);
+        if fate.is_some() {
+            self.faults = self.faults.saturating_add(1);
+        }
+        fate
+    }
+
+    fn write_fate(&self) -> Option<bool>
+        ensures { result ≡ write_fate self.now }
+    {
+        let number = self.written.saturating_add(1);
+        self.writes
+            .as_slice()
+            .iter()
+            .find(|w| w.0 == number)
+            .map(|w| w.1)
+    }
+}
+
 impl Namespace for MemNs {
     ghost told = { λ m. Some m.tree };
 
     ghost faults = { λ m. m.faults };
+
+    fn create(&mut self, place: &Place, bytes: &[u8]) -> Result<(), NsError>
+        ensures done { OnOk result (IsDone (Create place.now bytes.now) (Some self.old.tree) (Some self.new.tree)) }
+        ensures refused { IfErr result (λ error. IsRefused (Create place.now bytes.now) error (Some self.old.tree) (Some self.new.tree)) }
+        ensures only { IfErr result (λ error. IsTrue (is_create_error error)) }
+
+        // Exactly when it fails, what stands after a failure without effect, and what is counted.
+        ensures fails { IsErrOf result NsError.Failed ↔ IsSome (write_fate self.old) }
+        ensures idle { write_fate self.old ≡ Some false → self.new.tree ≡ self.old.tree }
+        ensures counted { self.new ≡ after_write self.new.tree self.old }
+        ensures later { self.old.faults ≤ self.new.faults }
+    {
+        match self.count_write() {
+            None => self.tree.create(place, bytes),
+            Some(false) => Err(NsError::Failed),
+            Some(true) => {
+                let _ = self.tree.create(place, bytes);
+                Err(NsError::Failed)
+            }
+        }
+    }
+
+    fn append(&mut self, place: &Place, bytes: &[u8]) -> Result<(), NsError>
+        ensures done { OnOk result (IsDone (Append place.now bytes.now) (Some self.old.tree) (Some self.new.tree)) }
+        ensures refused { IfErr result (λ error. IsRefused (Append place.now bytes.now) error (Some self.old.tree) (Some self.new.tree)) }
+        ensures only { IfErr result (λ error. IsTrue (is_change_error error)) }
+
+        // Exactly when it fails, what stands after a failure without effect, and what is counted.
+        ensures fails { IsErrOf result NsError.Failed ↔ IsSome (write_fate self.old) }
+        ensures idle { write_fate self.old ≡ Some false → self.new.tree ≡ self.old.tree }
+        ensures counted { self.new ≡ after_write self.new.tree self.old }
+        ensures later { self.old.faults ≤ self.new.faults }
+    {
+        match self.count_write() {
+            None => self.tree.append(place, bytes),
+            Some(false) => Err(NsError::Failed),
+            Some(true) => {
+                let _ = self.tree.append(place, bytes);
+                Err(NsError::Failed)
+            }
+        }
+    }
+
+    fn rename(&mut self, from: &Place, to: &Place) -> Result<(), NsError>
+        ensures done { OnOk result (IsDone (Rename from.now to.now) (Some self.old.tree) (Some self.new.tree)) }
+        ensures refused { IfErr result (λ error. IsRefused (Rename from.now to.now) error (Some self.old.tree) (Some self.new.tree)) }
+
+        // Exactly when it fails, what stands after a failure without effect, and what is counted.
+        ensures fails { IsErrOf result NsError.Failed ↔ IsSome (write_fate self.old) }
+        ensures idle { write_fate self.old ≡ Some false → self.new.tree ≡ self.old.tree }
+        ensures counted { self.new ≡ after_write self.new.tree self.old }
+        ensures later { self.old.faults ≤ self.new.faults }
+    {
+        match self.count_write() {
+            None => self.tree.rename(from, to),
+            Some(false) => Err(NsError::Failed),
+            Some(true) => {
+                let _ = self.tree.rename(from, to);
+                Err(NsError::Failed)
+            }
+        }
+    }
+
+    fn delete(&mut self, place: &Place) -> Result<(), NsError>
+        ensures done { OnOk result (IsDone (Delete place.now) (Some self.old.tree) (Some self.new.tree)) }
+        ensures refused { IfErr result (λ error. IsRefused (Delete place.now) error (Some self.old.tree) (Some self.new.tree)) }
+        ensures only { IfErr result (λ error. IsTrue (is_change_error error)) }
+
+        // Exactly when it fails, what stands after a failure without effect, and what is counted.
+        ensures fails { IsErrOf result NsError.Failed ↔ IsSome (write_fate self.old) }
+        ensures idle { write_fate self.old ≡ Some false → self.new.tree ≡ self.old.tree }
+        ensures counted { self.new ≡ after_write self.new.tree self.old }
+        ensures later { self.old.faults ≤ self.new.faults }
+    {
+        match self.count_write() {
+            None => self.tree.delete(place),
+            Some(false) => Err(NsError::Failed),
+            Some(true) => {
+                let _ = self.tree.delete(place);
+                Err(NsError::Failed)
+            }
+        }
+    }
+
+    fn touch(&mut self, place: &Place, moment: u64) -> Result<(), NsError>
+        ensures done { OnOk result (IsDone (Touch place.now moment) (Some self.old.tree) (Some self.new.tree)) }
+        ensures refused { IfErr result (λ error. IsRefused (Touch place.now moment) error (Some self.old.tree) (Some self.new.tree)) }
+        ensures only { IfErr result (λ error. IsTrue (is_change_error error)) }
+
+        // Exactly when it fails, what stands after a failure without effect, and what is counted.
+        ensures fails { IsErrOf result NsError.Failed ↔ IsSome (write_fate self.old) }
+        ensures idle { write_fate self.old ≡ Some false → self.new.tree ≡ self.old.tree }
+        ensures counted { self.new ≡ after_write self.new.tree self.old }
+        ensures later { self.old.faults ≤ self.new.faults }
+    {
+        match self.count_write() {
+            None => self.tree.touch(place, moment),
+            Some(false) => Err(NsError::Failed),
+            Some(true) => {
+                let _ = self.tree.touch(place, moment);
+                Err(NsError::Failed)
+            }
+        }
+    }
+
+    fn read_at(&mut self, place: &Place, at: u64, len: usize) -> Result<Bytes, NsError>
+        ensures step { self.new ≡ after_read self.old }
+        ensures fails { IsErrOf result NsError.Failed ↔ IsTrue (is_failing_read self.old) }
+        ensures ok { IfOk result (λ bytes. option_map (bytes_at at len) (map.get self.old.tree place.now) ≡ Some bytes) }
+        ensures most { IfOk result (λ bytes. length bytes ≤ len) }
+        ensures missing { IsErrOf result NsError.Missing → map.get self.old.tree place.now ≡ None }
+        ensures only { IfErr result (λ error. IsTrue (is_change_error error)) }
+        ensures later { self.old.faults ≤ self.new.faults }
+    {
+        if self.is_failing_read() {
+            return Err(NsError::Failed);
+        }
+        self.tree.read_at(place, at, len)
+    }
+
+    fn stat(&mut self, place: &Place) -> Result<Stat, NsError>
+        ensures step { self.new ≡ after_read self.old }
+        ensures fails { IsErrOf result NsError.Failed ↔ IsTrue (is_failing_read self.old) }
+        ensures ok { IfOk result (λ stat. option_map stat_of (map.get self.old.tree place.now) ≡ Some stat) }
+        ensures missing { IsErrOf result NsError.Missing → map.get self.old.tree place.now ≡ None }
+        ensures only { IfErr result (λ error. IsTrue (is_change_error error)) }
+        ensures later { self.old.faults ≤ self.new.faults }
+    {
+        if self.is_failing_read() {
+            return Err(NsError::Failed);
+        }
+        self.tree.stat(place)
+    }
 
     fn list(&mut self, below: Option<&Place>) -> Result<Items<Place>, NsError>
         ensures step { self.new ≡ after_read self.old }
@@ -101,50 +266,4 @@ impl Namespace for MemNs {
 }
 
 #[cfg(test)]
-mod tests {
-    use super::*;
-    use crate::file::FileState;
-    use bytes::Bytes;
-    use std::test::Fail;
-
-    // Files are added, or refused, and listed below a directory; the third reading call fails.
-    #[test]
-    fn lists_what_was_added(rt: HostRuntime) -> Result<(), Fail> {
-        let alloc = rt.alloc();
-        let mut tree = Tree::new(alloc);
-        let added = [
-            (b"a/c/d".as_slice(), Ok(())),
-            (b"a.b".as_slice(), Ok(())),
-            (b"a/b".as_slice(), Ok(())),
-            (b"b".as_slice(), Ok(())),
-            (b"a/b".as_slice(), Err(NsError::Exists)),
-            (b"a".as_slice(), Err(NsError::Exists)),
-            (b"a/b/c".as_slice(), Err(NsError::BelowFile)),
-        ];
-        for (text, answer) in added {
-            let file = FileState {
-                bytes: Bytes::new(),
-                moment: 7,
-            };
-            assert_eq!(rt; tree.add(Place::read(alloc, text)?, file), answer);
-        }
-        let dir = Place::read(alloc, b"a")?;
-        let mut ns = MemNs::new(tree, Items::new(alloc), Items::from_vec(vec![in alloc; 3]?));
-        let below = ns.list(Some(&dir))?;
-        assert_eq!(rt; below.len(), 2);
-        assert_eq!(rt; below.as_slice()[0].as_slice(), b"a/b".as_slice());
-        assert_eq!(rt; below.as_slice()[1].as_slice(), b"a/c/d".as_slice());
-        let all = ns.list(None)?;
-        assert_eq!(rt; all.len(), 4);
-        assert_eq!(rt; all.as_slice()[0].as_slice(), b"a.b".as_slice());
-        assert_eq!(rt; ns.list(None).is_err(), true);
-        assert_eq!(rt; ns.faults(), 1);
-        assert_eq!(rt; ns.list(None)?.len(), 4);
-        assert_eq!(rt; ns.tree().get(&dir).is_none(), true);
-        assert_eq!(rt;
-            ns.into_tree().get(&Place::read(alloc, b"b")?).is_some(),
-            true
-        );
-        Ok(())
-    }
-}
+mod tests;

@@ -1,13 +1,20 @@
 //! The files of a store, as a value.
-ghost use Rattle.std.specs.Prelude.{◌≡◌, ◌⊎◌, IfOk, IfErr, OnOk, OnErr, Some, None, option_copied};
+ghost use Rattle.std.specs.Prelude.{◌≡◌, ◌⊎◌, ℕ, List, All, true, ◌++◌, IsTrue, IfOk, IfErr, OnOk, OnErr, Some, None, option_copied, option_map, take, drop};
+ghost use Rattle.ns_tree.specs.Moves.{IsMove, is_source};
+ghost use Rattle.ns_tree.specs.Places.{is_within};
+ghost use Rattle.ns_tree.specs.Namespace.{bytes_at, stat_of};
+ghost use Rattle.ns_tree.specs.Step.{Create, Append, Rename, Delete, Touch, step, refusal, change_refusal, rename_refusal};
 ghost use Rattle.std.specs.FinMap as map;
 ghost use Rattle.ns_tree.specs.Tree.{listing, create_refusal};
 
-use crate::file::FileState;
+use crate::file::{FileState, Stat};
 use crate::files::Files;
+use crate::moves::{Move, has_too_deep, moves};
 use crate::namespace::NsError;
+use crate::places::is_below;
+use bytes::Bytes;
 use hb_names::Place;
-use hb_wire::{Items, NoMemory};
+use hb_wire::{Copied, Items, NoMemory};
 use std::alloc::Global;
 use std::marker::Model;
 
@@ -23,7 +30,7 @@ impl Model for Tree {
     ghost use Rattle.std.specs.Cmp.Lexicographic.{slice_cmp};
     ghost use Rattle.ns_tree.specs.declared.file.FileState.{FileState};
     ghost use Rattle.ns_tree.specs.Coded.{tree_code};
-    ghost use Rattle.ns_tree.specs.Tree.{IsTree};
+    ghost use Rattle.ns_tree.specs.Tree.{HasNoFileBelowAFile};
 
     ghost Value = { map.FinMap (slice_cmp nat_cmp) FileState };
 
@@ -31,7 +38,7 @@ impl Model for Tree {
 
     ghost view = { λ tree. tree.files };
 
-    ghost invariant = { λ tree. IsTree tree.files };
+    ghost invariant = { λ tree. HasNoFileBelowAFile tree.files };
 }
 
 impl Tree {
@@ -78,6 +85,129 @@ impl Tree {
         Ok(())
     }
 
+    /// Makes a file with moment 0.
+    pub(crate) fn create(&mut self, place: &Place, bytes: &[u8]) -> Result<(), NsError>
+        ensures ok { OnOk result (self.new ≡ step (Create place.now bytes.now) self.old) }
+        ensures free { OnOk result (refusal (Create place.now bytes.now) self.old ≡ None) }
+        ensures refused { IfErr result (λ error. (error ≡ NsError.NoMemory) ⊎ (refusal (Create place.now bytes.now) self.old ≡ Some error)) }
+        ensures err { OnErr result (self.new ≡ self.old) }
+    {
+        let bytes = Bytes::copy_from_slice(self.files.allocator(), bytes)?;
+        self.add(place.copy()?, FileState { bytes, moment: 0 })
+    }
+
+    /// Adds bytes at the end of a file.
+    pub(crate) fn append(&mut self, place: &Place, bytes: &[u8]) -> Result<(), NsError>
+        ensures ok { OnOk result (self.new ≡ step (Append place.now bytes.now) self.old) }
+        ensures stood { OnOk result (refusal (Append place.now bytes.now) self.old ≡ None) }
+        ensures refused { IfErr result (λ error. (error ≡ NsError.NoMemory) ⊎ (refusal (Append place.now bytes.now) self.old ≡ Some error)) }
+        ensures err { OnErr result (self.new ≡ self.old) }
+    {
+        let Some(file) = self.get(place) else {
+            return Err(NsError::Missing);
+        };
+        let bytes = joined(self.files.allocator(), file.bytes.as_slice(), bytes)?;
+        let moment = file.moment;
+        self.replace(place, FileState { bytes, moment })
+    }
+
+    /// Sets the moment of a file.
+    pub(crate) fn touch(&mut self, place: &Place, moment: u64) -> Result<(), NsError>
+        ensures ok { OnOk result (self.new ≡ step (Touch place.now moment) self.old) }
+        ensures stood { OnOk result (refusal (Touch place.now moment) self.old ≡ None) }
+        ensures refused { IfErr result (λ error. (error ≡ NsError.NoMemory) ⊎ (refusal (Touch place.now moment) self.old ≡ Some error)) }
+        ensures err { OnErr result (self.new ≡ self.old) }
+    {
+        let Some(file) = self.get(place) else {
+            return Err(NsError::Missing);
+        };
+        let bytes = file.bytes.clone()?;
+        self.replace(place, FileState { bytes, moment })
+    }
+
+    // Puts another file at a place where one stands.
+    fn replace(&mut self, place: &Place, file: FileState) -> Result<(), NsError>
+        requires { IsTrue (map.contains_key self.old place.now) }
+        ensures ok { OnOk result (self.new ≡ map.insert self.old place.now file) }
+        ensures memory { IfErr result (λ error. error ≡ NsError.NoMemory) }
+        ensures err { OnErr result (self.new ≡ self.old) }
+    {
+        self.files.put(place.as_blob().copy()?, file)?;
+        Ok(())
+    }
+
+    /// Moves a file, or all files below a directory, with their bytes and moments.
+    pub(crate) fn rename(&mut self, from: &Place, to: &Place) -> Result<(), NsError>
+        ensures ok { OnOk result (self.new ≡ step (Rename from.now to.now) self.old) }
+        ensures free { OnOk result (refusal (Rename from.now to.now) self.old ≡ None) }
+        ensures refused { IfErr result (λ error. (error ≡ NsError.NoMemory) ⊎ (refusal (Rename from.now to.now) self.old ≡ Some error)) }
+        ensures err { OnErr result (self.new ≡ self.old) }
+    {
+        let moves = self.plan(from, to)?;
+        self.files.move_all(from, to, moves.as_slice())?;
+        Ok(())
+    }
+
+    // The moves of a rename that nothing refuses.
+    fn plan(&self, from: &Place, to: &Place) -> Result<Vec<Move>, NsError>
+        ensures free { IfOk result (λ moves. rename_refusal from.now to.now self.now ≡ None) }
+        ensures each { IfOk result (λ moves. All (IsMove from.now to.now self.now) moves.items) }
+        ensures whole { IfOk result (λ moves. (q : List ℕ) → is_within from.now q ≡ true → map.contains_key self.now q ≡ true → is_source moves.items q ≡ true) }
+        ensures refused { IfErr result (λ error. (error ≡ NsError.NoMemory) ⊎ (rename_refusal from.now to.now self.now ≡ Some error)) }
+    {
+        let sources = self.files.sources(from)?;
+        if sources.is_empty() {
+            return Err(NsError::Missing);
+        }
+        let moves = moves(self.files.allocator(), from, to, &sources)?;
+        if is_below(from.as_slice(), to.as_slice()) || has_too_deep(moves.as_slice()) {
+            return Err(NsError::Inside);
+        }
+        match self.check_free(to) {
+            Ok(()) => Ok(moves),
+            Err(error) => Err(error),
+        }
+    }
+
+    /// Removes a file.
+    pub(crate) fn delete(&mut self, place: &Place) -> Result<(), NsError>
+        ensures ok { OnOk result (self.new ≡ step (Delete place.now) self.old) }
+        ensures stood { OnOk result (refusal (Delete place.now) self.old ≡ None) }
+        ensures refused { IfErr result (λ error. refusal (Delete place.now) self.old ≡ Some error) }
+        ensures err { OnErr result (self.new ≡ self.old) }
+    {
+        if !self.files.has(place.as_blob()) {
+            return Err(NsError::Missing);
+        }
+        self.files.take(place.as_blob());
+        Ok(())
+    }
+
+    /// The bytes of a file from a position on, at most so many. They are shared, and not copied.
+    pub(crate) fn read_at(&self, place: &Place, at: u64, len: usize) -> Result<Bytes, NsError>
+        ensures ok { IfOk result (λ bytes. option_map (bytes_at at len) (map.get self.now place.now) ≡ Some bytes) }
+        ensures refused { IfErr result (λ error. (error ≡ NsError.NoMemory) ⊎ (change_refusal place.now self.now ≡ Some error)) }
+    {
+        let Some(file) = self.get(place) else {
+            return Err(NsError::Missing);
+        };
+        Ok(piece(&file.bytes, at, len)?)
+    }
+
+    /// The size and the moment of a file.
+    pub(crate) fn stat(&self, place: &Place) -> Result<Stat, NsError>
+        ensures ok { IfOk result (λ stat. option_map stat_of (map.get self.now place.now) ≡ Some stat) }
+        ensures refused { IfErr result (λ error. change_refusal place.now self.now ≡ Some error) }
+    {
+        let Some(file) = self.get(place) else {
+            return Err(NsError::Missing);
+        };
+        Ok(Stat {
+            size: file.bytes.len() as u64,
+            moment: file.moment,
+        })
+    }
+
     /// The places of all files, or of those below a directory, in byte order.
     pub fn listing(&self, below: Option<&Place>) -> Result<Items<Place>, NoMemory>
         ensures { IfOk result (λ places. places ≡ listing (option_copied below.entry) self.now) }
@@ -87,4 +217,26 @@ impl Tree {
             None => self.files.places(),
         }
     }
+}
+
+// The bytes of one slice, and then those of another.
+fn joined(alloc: Global, front: &[u8], back: &[u8]) -> Result<Bytes, NoMemory>
+    ensures { IfOk result (λ bytes. bytes ≡ front.now ++ back.now) }
+{
+    let mut bytes = Vec::with_capacity(alloc, front.len() + back.len())?;
+    bytes.extend_from_slice(front)?;
+    bytes.extend_from_slice(back)?;
+    Ok(Bytes::from_vec(bytes)?)
+}
+
+// The bytes from a position on, at most so many.
+fn piece(bytes: &Bytes, at: u64, len: usize) -> Result<Bytes, NoMemory>
+    ensures { IfOk result (λ piece. piece ≡ take len (drop at bytes.now)) }
+{
+    if at >= bytes.len() as u64 {
+        return Ok(Bytes::new());
+    }
+    let start = at as usize;
+    let end = start + len.min(bytes.len() - start);
+    bytes.slice(start..end)
 }
