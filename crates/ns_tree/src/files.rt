@@ -143,7 +143,8 @@ fn first_below(alloc: Global, dir: &Place) -> Result<Blob, NoMemory>
     Ok(first)
 }
 
-// The place whose text this is.
+// The place whose text this is. Each text of the map was a place when its file was made or moved, so what can fail
+// is the copy alone.
 fn place_of(alloc: Global, text: &Blob) -> Result<Place, NoMemory>
     ensures { IfOk result (λ place. place ≡ text.now) }
 {
