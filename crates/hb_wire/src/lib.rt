@@ -46,7 +46,10 @@ mod tests {
         put_u16(&mut out, 0x0102)?;
         put_u32(&mut out, 3)?;
         put_u64(&mut out, 4)?;
-        assert_eq!(rt; out.as_slice(), [1, 2, 0, 0, 0, 3, 0, 0, 0, 0, 0, 0, 0, 4].as_slice());
+        assert_eq!(rt;
+            out.as_slice(),
+            [1, 2, 0, 0, 0, 3, 0, 0, 0, 0, 0, 0, 0, 4].as_slice()
+        );
         Ok(())
     }
 
