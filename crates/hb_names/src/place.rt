@@ -67,6 +67,14 @@ impl Place {
         })
     }
 
+    /// The place of bytes that are known to be one. It takes no memory.
+    pub fn of(text: Blob) -> Place
+        requires { IsPlace text }
+        ensures { result ≡ text }
+    {
+        Place { text }
+    }
+
     /// Adds the place's bytes at the end of `out`. Without memory for them nothing changes.
     pub fn write(&self, out: &mut Blob) -> Result<(), NoMemory>
         ensures ok { OnOk result (out.new ≡ out.old ++ self.now) }
