@@ -1,12 +1,12 @@
-use Rattle.std.proofs.Common.{◌≡◌, ℕ, zero, suc, ◌+◌, ◌*◌, ◌/◌, ◌%◌, ◌<◌, ◌==◌, Bool, true, false, not, ◌&&◌, ◌||◌, nat_lt, inl, inr, List, [], ◌∷◌, length, slice_index, Option, Some, None, unwrap_or, Result, Ok, Err, refl, sym, ap, ◌∙◌, subst, arith}
+use Rattle.std.proofs.Common.{◌≡◌, ℕ, zero, suc, ◌+◌, ◌*◌, ◌/◌, ◌%◌, ◌<◌, ◌^◌, ◌==◌, Bool, true, false, not, ◌&&◌, ◌||◌, nat_lt, inl, inr, List, [], ◌∷◌, length, slice_index, Option, Some, None, unwrap_or, Result, Ok, Err, refl, sym, ap, ◌∙◌, subst, arith}
 use Rattle.std.specs.Prelude.{MatchResult}
 use Rattle.std.specs.Int.{w64, to_be_bytes, from_be_bytes, bytes_high_first, byte_at}
 use Rattle.std.proofs.lemmas.Bool.{and_parts, cases_lt, eqb-true}
 use Rattle.std.proofs.lemmas.Bool.Decides.{nat_tests}
-use Rattle.std.proofs.lemmas.Nat.{be_bytes_8}
-use Rattle.hex.specs.Hex.{IsBytes, decode_pairs, decode_sized, encode_lower, encode_with, hex_digit_value, lower_digits, pair_value, value_at}
+use Rattle.std.proofs.lemmas.Nat.{be_bytes_8, from_be_bytes-to_be_bytes_8}
+use Rattle.hex.specs.Hex.{IsBytes, decode_of, decode_pairs, decode_sized, encode_lower, encode_with, hex_digit_value, lower_digits, pair_value, value_at}
 use Rattle.hex.specs.declared.error.FromHexError.{FromHexError}
-use Rattle.hex.proofs.HexLemmas.{decode_sized-twice, decode_of-even, length-encode_with}
+use Rattle.hex.proofs.HexLemmas.{decode_of-encode_lower, decode_of-same, decode_sized-twice, decode_of-even, length-encode_with}
 use Rattle.hex.proofs.Pairs.{cons_byte, decode_pairs-ok_pair}
 use Rattle.hb_names.proofs.LowerHexLemmas.{IsExactly-encode_lower}
 use Rattle.hb_grammar.specs.declared.class.Class.TheVariants.{LowerHex}
@@ -148,3 +148,11 @@ IsBytes-bytes_high_first (suc count) number =
 pub IsExactly-sixteen_digits : (number : ℕ) → IsExactly LowerHex 16 (sixteen_digits number)
 IsExactly-sixteen_digits number =
     IsExactly-encode_lower (to_be_bytes w64 number) 8 (length-bytes_high_first 8 number) (IsBytes-bytes_high_first 8 number)
+
+-- numbers of 64 bits are told by their digits
+pub sixteen_digits-injective : (m n : ℕ) → m < 2 ^ 64 → n < 2 ^ 64 → sixteen_digits m ≡ sixteen_digits n → m ≡ n
+sixteen_digits-injective m n small small' e =
+    let of_m = decode_of-encode_lower (to_be_bytes w64 m) (IsBytes-bytes_high_first 8 m) in
+    let of_n = decode_of-encode_lower (to_be_bytes w64 n) (IsBytes-bytes_high_first 8 n) in
+    let same : to_be_bytes w64 m ≡ to_be_bytes w64 n = decode_of-same (sixteen_digits m) (to_be_bytes w64 m) (to_be_bytes w64 n) of_m (ap decode_of e ∙ of_n) in
+    sym (from_be_bytes-to_be_bytes_8 m small) ∙ ap (from_be_bytes w64) same ∙ from_be_bytes-to_be_bytes_8 n small'

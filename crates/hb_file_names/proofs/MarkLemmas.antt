@@ -47,16 +47,6 @@ pub IsMarkedSplit_first : (inner second : List ℕ → Type 0) (mark n : ℕ) (b
 IsMarkedSplit_first inner second mark n bytes long pair =
     IsMarkedSplit-Joined inner second mark n bytes pair (sym (long pair.in_first.front pair.in_first.in_inner))
 
--- where the second string has a length of its own
-pub IsMarkedSplit_second : (inner second : List ℕ → Type 0) (mark n count : ℕ) (bytes : List ℕ) → ((xs : List ℕ) → second xs → length xs ≡ count) →
-    n + 1 + count ≡ length bytes → Joined (Marked inner mark) second bytes → IsMarkedSplit inner second mark n bytes
-IsMarkedSplit_second inner second mark n count bytes long e pair =
-    let back : length pair.back ≡ count = long pair.back pair.in_second in
-    let front : length pair.front ≡ length pair.in_first.front + 1 =
-    ap length pair.in_first.whole ∙ length-append pair.in_first.front (mark ∷ []) in
-    let whole : length bytes ≡ length pair.front + length pair.back = ap length pair.whole ∙ length-append pair.front pair.back in
-    IsMarkedSplit-Joined inner second mark n bytes pair (omega arith)
-
 -- the bytes behind the second of two marks
 pub text-IsMarkedSplit : (table region file rest bytes : List ℕ) (n m first second : ℕ) → table ≡ take n bytes → rest ≡ drop (n + 1) bytes →
     region ≡ take m rest → file ≡ drop (m + 1) rest → take n bytes ++ first ∷ drop (n + 1) bytes ≡ bytes → take m rest ++ second ∷ drop (m + 1) rest ≡ rest →

@@ -17,6 +17,8 @@ pub mod mark;
 pub mod ref_grammar;
 pub mod ref_name;
 pub mod suffix;
+#[cfg(test)]
+mod tests;
 
 pub use back_ref::{BackParts, BackRef};
 pub use file_name::FileName;

@@ -1,0 +1,156 @@
+use Rattle.std.proofs.Common.{◌≡◌, ℕ, zero, suc, ◌+◌, ◌-◌, ◌*◌, ◌≤◌, ◌<◌, ◌^◌, List, [], ◌∷◌, ◌++◌, length, Bool, true, false, refl, inl, inr, sym, ap, ◌∙◌, subst, arith, codes}
+use Rattle.std.specs.Fmt.{decimal}
+use Rattle.std.proofs.lemmas.Bool.Decides.{nat_tests}
+use Rattle.std.proofs.lemmas.Fmt.{length-decimal-le}
+use Rattle.std.proofs.lemmas.List.{length-append}
+use Rattle.hb_grammar.specs.declared.class.Class.{Class}
+use Rattle.hb_grammar.specs.declared.class.Class.TheVariants.{Digit, LowerHex, Name, NameStart, FamilyStart, Component}
+use Rattle.hb_grammar.specs.Class.{has, is_digit, AllIn}
+use Rattle.hb_grammar.specs.Run.{IsRun, IsExactly}
+use Rattle.hb_grammar.specs.Number.{DigitsAfter, IsNumeral}
+use Rattle.hb_grammar.specs.Joined.{Joined}
+use Rattle.hb_grammar.specs.Marked.{Marked}
+use Rattle.hb_grammar.specs.Either.{EitherOf}
+use Rattle.hb_grammar.proofs.NumberLemmas.{value_after, value_after-IsNumeral, decimal-value_after}
+use Rattle.hb_names.specs.Component.{AllDots, IsComponent}
+
+-- strings of the grammar are no longer than so many bytes, all of them of a component
+pub record IsShort (spells : List ℕ → Type 0) (most : ℕ) : Type 0 where
+  pub short : (bytes : List ℕ) → spells bytes → length bytes ≤ most
+  pub each : (bytes : List ℕ) → spells bytes → AllIn Component bytes
+
+-- no string of the grammar is dots alone, nor empty
+abbrev pub HasMore : (List ℕ → Type 0) → Type 0
+HasMore spells = (bytes : List ℕ) → spells bytes → AllDots bytes → ⊥
+
+-- a byte of any class is one of a component
+Component-has : (class : Class) (byte : ℕ) → has class byte ≡ true → has Component byte ≡ true
+unfolding has
+Component-has Digit byte e = grind (arith, nat_tests)
+Component-has LowerHex byte e = grind (arith, nat_tests)
+Component-has Name byte e = grind (arith, nat_tests)
+Component-has NameStart byte e = grind (arith, nat_tests)
+Component-has FamilyStart byte e = grind (arith, nat_tests)
+Component-has Component byte e = e
+
+-- so are all bytes
+AllIn-Component : (class : Class) (bytes : List ℕ) → AllIn class bytes → AllIn Component bytes
+AllIn-Component class [] each = tt
+AllIn-Component class (byte ∷ bytes) each = (Component-has class byte each.0, AllIn-Component class bytes each.1)
+
+-- two parts of such bytes
+pub AllIn-append : (xs ys : List ℕ) → AllIn Component xs → AllIn Component ys → AllIn Component (xs ++ ys)
+AllIn-append [] ys a b = b
+AllIn-append (x ∷ xs) ys a b = (a.0, AllIn-append xs ys a.1 b)
+
+-- the front of dots alone
+AllDots-front : (xs ys : List ℕ) → AllDots (xs ++ ys) → AllDots xs
+AllDots-front [] ys dots = tt
+AllDots-front (x ∷ xs) ys dots = (dots.0, AllDots-front xs ys dots.1)
+
+-- a digit is a byte of a component
+Component-is_digit : (byte : ℕ) → is_digit byte ≡ true → has Component byte ≡ true
+unfolding has
+Component-is_digit byte e = grind (arith, nat_tests)
+
+AllIn-DigitsAfter : (max value : ℕ) (bytes : List ℕ) → DigitsAfter max value bytes → AllIn Component bytes
+AllIn-DigitsAfter max value [] after = tt
+AllIn-DigitsAfter max value (digit ∷ digits) after =
+    (Component-is_digit digit after.1, AllIn-DigitsAfter max (value * 10 + (digit - 48)) digits after.2)
+
+AllIn-IsNumeral : (positive : Bool) (max : ℕ) (bytes : List ℕ) → IsNumeral positive max bytes → AllIn Component bytes
+AllIn-IsNumeral positive max [] numeral = absurd numeral
+AllIn-IsNumeral positive max (digit ∷ digits) numeral = (Component-is_digit digit numeral.0, AllIn-DigitsAfter max (digit - 48) digits numeral.2)
+
+pub IsShort-IsRun : (class : Class) (low high : ℕ) → IsShort (IsRun class low high) high
+IsShort-IsRun class low high = record { short = λ bytes run. run.most; each = λ bytes run. AllIn-Component class bytes run.each }
+
+pub IsShort-IsExactly : (class : Class) (count : ℕ) → IsShort (IsExactly class count) count
+IsShort-IsExactly class count =
+    record { short = λ bytes run. let long = run.long in omega arith; each = λ bytes run. AllIn-Component class bytes run.each }
+
+pub IsShort-text : (text : List ℕ) → AllIn Component text → IsShort (λ bytes. bytes ≡ text) (length text)
+IsShort-text text each = record {
+  short = λ bytes e. let same = ap length e in omega arith;
+  each = λ bytes e. subst (AllIn Component) (sym e) each;
+}
+
+-- a number up to 2 ^ 63 - 1 has at most 19 digits
+pub IsShort-IsNumeral : (positive : Bool) → IsShort (IsNumeral positive 9_223_372_036_854_775_807) 19
+IsShort-IsNumeral positive = record {
+  short = λ bytes numeral.
+      let small : 9_223_372_036_854_775_807 < 2 ^ 64 = omega arith in
+      let number : ℕ = value_after 0 bytes in
+      let within : number ≤ 9_223_372_036_854_775_807 = value_after-IsNumeral positive 9_223_372_036_854_775_807 bytes numeral in
+      let same : decimal number ≡ bytes = decimal-value_after positive 9_223_372_036_854_775_807 bytes small numeral in
+      subst (λ (x : List ℕ). length x ≤ 19) same (length-decimal-le 19 number (omega arith) (omega arith) (omega arith));
+  each = AllIn-IsNumeral positive 9_223_372_036_854_775_807;
+}
+
+pub IsShort-Joined : (first second : List ℕ → Type 0) (m n : ℕ) → IsShort first m → IsShort second n → IsShort (Joined first second) (m + n)
+IsShort-Joined first second m n a b = record {
+  short = λ bytes pair.
+      let front = a.short pair.front pair.in_first in
+      let back = b.short pair.back pair.in_second in
+      let whole = ap length pair.whole ∙ length-append pair.front pair.back in omega arith;
+  each = λ bytes pair. subst (AllIn Component) (sym pair.whole)
+      (AllIn-append pair.front pair.back (a.each pair.front pair.in_first) (b.each pair.back pair.in_second));
+}
+
+pub IsShort-Marked : (inner : List ℕ → Type 0) (mark m : ℕ) → has Component mark ≡ true → IsShort inner m → IsShort (Marked inner mark) (m + 1)
+IsShort-Marked inner mark m inside a = record {
+  short = λ bytes marked.
+      let front = a.short marked.front marked.in_inner in
+      let whole = ap length marked.whole ∙ length-append marked.front (mark ∷ []) in omega arith;
+  each = λ bytes marked. subst (AllIn Component) (sym marked.whole)
+      (AllIn-append marked.front (mark ∷ []) (a.each marked.front marked.in_inner) (inside, tt));
+}
+
+pub IsShort-EitherOf : (left right : List ℕ → Type 0) (m n most : ℕ) → m ≤ most → n ≤ most → IsShort left m → IsShort right n → IsShort (EitherOf left right) most
+IsShort-EitherOf left right m n most le le' a b = record {
+  short = λ bytes either. elim either as (λ _. length bytes ≤ most)
+      [ inl x ↦ let short = a.short bytes x in omega arith | inr y ↦ let short = b.short bytes y in omega arith ];
+  each = λ bytes either. elim either as (λ _. AllIn Component bytes) [ inl x ↦ a.each bytes x | inr y ↦ b.each bytes y ];
+}
+
+-- a first byte of a class without the dot
+HasMore-first : (class : Class) (bytes : List ℕ) → has class 46 ≡ false → 0 < length bytes → AllIn class bytes → AllDots bytes → ⊥
+HasMore-first class [] outside some each dots = omega arith
+HasMore-first class (byte ∷ bytes) outside some each dots =
+    let dot : has class byte ≡ has class 46 = ap (has class) dots.0 in let inside : has class byte ≡ true = each.0 in cc
+
+pub HasMore-IsExactly : (class : Class) (count : ℕ) → has class 46 ≡ false → 0 < count → HasMore (IsExactly class count)
+HasMore-IsExactly class count outside some bytes run dots = let long = run.long in HasMore-first class bytes outside (omega arith) run.each dots
+
+pub HasMore-Joined : (first second : List ℕ → Type 0) → HasMore first → HasMore (Joined first second)
+HasMore-Joined first second a bytes pair dots =
+    a pair.front pair.in_first (AllDots-front pair.front pair.back (subst AllDots pair.whole dots))
+
+pub HasMore-Marked : (inner : List ℕ → Type 0) (mark : ℕ) → HasMore inner → HasMore (Marked inner mark)
+HasMore-Marked inner mark a bytes marked dots =
+    a marked.front marked.in_inner (AllDots-front marked.front (mark ∷ []) (subst AllDots marked.whole dots))
+
+pub HasMore-EitherOf : (left right : List ℕ → Type 0) → HasMore left → HasMore right → HasMore (EitherOf left right)
+HasMore-EitherOf left right a b bytes either dots = elim either as (λ _. ⊥) [ inl x ↦ a bytes x dots | inr y ↦ b bytes y dots ]
+
+not_dot : (byte : ℕ) → is_digit byte ≡ true → byte ≡ 46 → ⊥
+not_dot byte e same = grind (arith, nat_tests)
+
+pub HasMore-IsNumeral : (positive : Bool) (max : ℕ) → HasMore (IsNumeral positive max)
+HasMore-IsNumeral positive max [] numeral dots = numeral
+HasMore-IsNumeral positive max (digit ∷ digits) numeral dots = not_dot digit numeral.0 dots.0
+
+some_byte : (bytes : List ℕ) → (AllDots bytes → ⊥) → 1 ≤ length bytes
+some_byte [] more = absurd (more tt)
+some_byte (byte ∷ bytes) more = omega arith
+
+-- strings that are short and no dots alone are components
+pub IsComponent-IsShort : (spells : List ℕ → Type 0) (most : ℕ) → most ≤ 255 → IsShort spells most → HasMore spells → (bytes : List ℕ) → spells bytes → IsComponent bytes
+IsComponent-IsShort spells most le short more bytes spelled =
+    let most' = short.short bytes spelled in
+    record {
+      least = some_byte bytes (more bytes spelled);
+      most = omega arith;
+      each = short.each bytes spelled;
+      not_dots = λ dots. absurd (more bytes spelled dots);
+    }

@@ -1,0 +1,8 @@
+use Rattle.std.proofs.Common.{sym, subst}
+use Rattle.hb_names.specs.Place.{IsPlace}
+use Rattle.hb_layout.specs.Spot.{Archived}
+use Rattle.hb_layout.proofs.LawfulLemmas.{IsPlace-place_text}
+use Rattle.hb_layout.proofs.base.archived.Goals as goal
+
+pub of-requires : goal.of-requires
+of-requires c = subst IsPlace (sym c.in_ok-text_below.ensures.text) (IsPlace-place_text (Archived c.args.base.now) c.in_ok-text_below.ensures.lawful)
