@@ -53,22 +53,27 @@ Component-is_digit : (byte : ℕ) → is_digit byte ≡ true → has Component b
 unfolding has
 Component-is_digit byte e = grind (arith, nat_tests)
 
+-- so are digits behind others
 AllIn-DigitsAfter : (max value : ℕ) (bytes : List ℕ) → DigitsAfter max value bytes → AllIn Component bytes
 AllIn-DigitsAfter max value [] after = tt
 AllIn-DigitsAfter max value (digit ∷ digits) after =
     (Component-is_digit digit after.1, AllIn-DigitsAfter max (value * 10 + (digit - 48)) digits after.2)
 
+-- and numerals
 AllIn-IsNumeral : (positive : Bool) (max : ℕ) (bytes : List ℕ) → IsNumeral positive max bytes → AllIn Component bytes
 AllIn-IsNumeral positive max [] numeral = absurd numeral
 AllIn-IsNumeral positive max (digit ∷ digits) numeral = (Component-is_digit digit numeral.0, AllIn-DigitsAfter max (digit - 48) digits numeral.2)
 
+-- a run is no longer than its bound
 pub IsShort-IsRun : (class : Class) (low high : ℕ) → IsShort (IsRun class low high) high
 IsShort-IsRun class low high = record { short = λ bytes run. run.most; each = λ bytes run. AllIn-Component class bytes run.each }
 
+-- so many bytes are so many
 pub IsShort-IsExactly : (class : Class) (count : ℕ) → IsShort (IsExactly class count) count
 IsShort-IsExactly class count =
     record { short = λ bytes run. let long = run.long in omega arith; each = λ bytes run. AllIn-Component class bytes run.each }
 
+-- one text is as long as it is
 pub IsShort-text : (text : List ℕ) → AllIn Component text → IsShort (λ bytes. bytes ≡ text) (length text)
 IsShort-text text each = record {
   short = λ bytes e. let same = ap length e in omega arith;
@@ -87,6 +92,7 @@ IsShort-IsNumeral positive = record {
   each = AllIn-IsNumeral positive 9_223_372_036_854_775_807;
 }
 
+-- two parts are no longer than both bounds
 pub IsShort-Joined : (first second : List ℕ → Type 0) (m n : ℕ) → IsShort first m → IsShort second n → IsShort (Joined first second) (m + n)
 IsShort-Joined first second m n a b = record {
   short = λ bytes pair.
@@ -97,6 +103,7 @@ IsShort-Joined first second m n a b = record {
       (AllIn-append pair.front pair.back (a.each pair.front pair.in_first) (b.each pair.back pair.in_second));
 }
 
+-- a mark is one byte more
 pub IsShort-Marked : (inner : List ℕ → Type 0) (mark m : ℕ) → has Component mark ≡ true → IsShort inner m → IsShort (Marked inner mark) (m + 1)
 IsShort-Marked inner mark m inside a = record {
   short = λ bytes marked.
@@ -106,6 +113,7 @@ IsShort-Marked inner mark m inside a = record {
       (AllIn-append marked.front (mark ∷ []) (a.each marked.front marked.in_inner) (inside, tt));
 }
 
+-- one of two is no longer than the greater bound
 pub IsShort-EitherOf : (left right : List ℕ → Type 0) (m n most : ℕ) → m ≤ most → n ≤ most → IsShort left m → IsShort right n → IsShort (EitherOf left right) most
 IsShort-EitherOf left right m n most le le' a b = record {
   short = λ bytes either. elim either as (λ _. length bytes ≤ most)
@@ -119,27 +127,34 @@ HasMore-first class [] outside some each dots = omega arith
 HasMore-first class (byte ∷ bytes) outside some each dots =
     let dot : has class byte ≡ has class 46 = ap (has class) dots.0 in let inside : has class byte ≡ true = each.0 in cc
 
+-- so many bytes of a class without the dot are not dots alone
 pub HasMore-IsExactly : (class : Class) (count : ℕ) → has class 46 ≡ false → 0 < count → HasMore (IsExactly class count)
 HasMore-IsExactly class count outside some bytes run dots = let long = run.long in HasMore-first class bytes outside (omega arith) run.each dots
 
+-- nor are two parts whose first is not
 pub HasMore-Joined : (first second : List ℕ → Type 0) → HasMore first → HasMore (Joined first second)
 HasMore-Joined first second a bytes pair dots =
     a pair.front pair.in_first (AllDots-front pair.front pair.back (subst AllDots pair.whole dots))
 
+-- nor is a string with a mark that is not without it
 pub HasMore-Marked : (inner : List ℕ → Type 0) (mark : ℕ) → HasMore inner → HasMore (Marked inner mark)
 HasMore-Marked inner mark a bytes marked dots =
     a marked.front marked.in_inner (AllDots-front marked.front (mark ∷ []) (subst AllDots marked.whole dots))
 
+-- nor is one of two that are not
 pub HasMore-EitherOf : (left right : List ℕ → Type 0) → HasMore left → HasMore right → HasMore (EitherOf left right)
 HasMore-EitherOf left right a b bytes either dots = elim either as (λ _. ⊥) [ inl x ↦ a bytes x dots | inr y ↦ b bytes y dots ]
 
+-- a digit is no dot
 not_dot : (byte : ℕ) → is_digit byte ≡ true → byte ≡ 46 → ⊥
 not_dot byte e same = grind (arith, nat_tests)
 
+-- a numeral is not dots alone
 pub HasMore-IsNumeral : (positive : Bool) (max : ℕ) → HasMore (IsNumeral positive max)
 HasMore-IsNumeral positive max [] numeral dots = numeral
 HasMore-IsNumeral positive max (digit ∷ digits) numeral dots = not_dot digit numeral.0 dots.0
 
+-- what is not dots alone has a byte
 some_byte : (bytes : List ℕ) → (AllDots bytes → ⊥) → 1 ≤ length bytes
 some_byte [] more = absurd (more tt)
 some_byte (byte ∷ bytes) more = omega arith

@@ -38,6 +38,7 @@ record HasWords : Type 0 where
   manifest : IsComponent (codes "data.manifest")
   staging : IsComponent (codes "staging")
 
+-- each of them is a component
 words : HasWords
 unfolding has
 words = record {
@@ -125,6 +126,7 @@ record IsDeep (parts : List (List ℕ)) : Type 0 where
   least : 1 ≤ length parts
   most : length parts ≤ 16
 
+-- so it has
 deep : (spot : Spot) → IsDeep (path spot)
 deep (Epoch number) = record { least = omega arith; most = omega arith }
 deep (Tmp name) = record { least = omega arith; most = omega arith }
@@ -164,6 +166,7 @@ no_dot (x ∷ xs) back rest e exactly =
     let same : x ≡ 46 = cc in let inside : has FamilyStart x ≡ true = exactly.each.0 in
     let outside : has FamilyStart x ≡ false = ap (has FamilyStart) same in cc
 
+-- a family's name is not that of the directory of the lists
 family_apart : (family : List ℕ) → IsFamilyName family → (b : Bool) → same_name family filelist ≡ b → not b ≡ true
 family_apart family named false e = refl
 family_apart family named true e =

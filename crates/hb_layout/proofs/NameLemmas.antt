@@ -22,38 +22,47 @@ use Rattle.hb_file_names.specs.BackRef.{IsBackRef}
 use Rattle.hb_file_names.proofs.DigitsLemmas.{IsExactly-sixteen_digits}
 use Rattle.hb_layout.proofs.KindLemmas.{IsShort, HasMore, AllIn-append, IsShort-IsRun, IsShort-IsExactly, IsShort-text, IsShort-IsNumeral, IsShort-Joined, IsShort-Marked, IsShort-EitherOf, HasMore-IsExactly, HasMore-Joined, HasMore-Marked, HasMore-EitherOf, HasMore-IsNumeral, IsComponent-IsShort}
 
+-- a table's name has at most 100 bytes
 IsShort-IsTableName : IsShort IsTableName 100
 IsShort-IsTableName = IsShort-Joined (IsExactly NameStart 1) (IsRun Name 0 99) 1 99 (IsShort-IsExactly NameStart 1) (IsShort-IsRun Name 0 99)
 
+-- and is not dots alone
 HasMore-IsTableName : HasMore IsTableName
 unfolding has
 HasMore-IsTableName = HasMore-Joined (IsExactly NameStart 1) (IsRun Name 0 99) (HasMore-IsExactly NameStart 1 refl (omega arith))
 
+-- it is a component
 pub IsComponent-IsTableName : (bytes : List ℕ) → IsTableName bytes → IsComponent bytes
 IsComponent-IsTableName = IsComponent-IsShort IsTableName 100 (omega arith) IsShort-IsTableName HasMore-IsTableName
 
+-- so is a family's name
 pub IsComponent-IsFamilyName : (bytes : List ℕ) → IsFamilyName bytes → IsComponent bytes
 unfolding has
 IsComponent-IsFamilyName = IsComponent-IsShort IsFamilyName 127 (omega arith)
     (IsShort-Joined (IsExactly FamilyStart 1) (IsRun Name 0 126) 1 126 (IsShort-IsExactly FamilyStart 1) (IsShort-IsRun Name 0 126))
     (HasMore-Joined (IsExactly FamilyStart 1) (IsRun Name 0 126) (HasMore-IsExactly FamilyStart 1 refl (omega arith)))
 
+-- hexadecimal digits are not dots alone
 HasMore-digits : (count : ℕ) → 0 < count → HasMore (IsExactly LowerHex count)
 unfolding has
 HasMore-digits count some = HasMore-IsExactly LowerHex count refl some
 
+-- an encoded name is a component
 pub IsComponent-IsEncoded : (bytes : List ℕ) → IsEncoded bytes → IsComponent bytes
 IsComponent-IsEncoded = IsComponent-IsShort IsEncoded 32 (omega arith) (IsShort-IsExactly LowerHex 32) (HasMore-digits 32 (omega arith))
 
+-- so are the digits of an epoch
 pub IsComponent-sixteen_digits : (number : ℕ) → IsComponent (sixteen_digits number)
 IsComponent-sixteen_digits number = IsComponent-IsShort (IsExactly LowerHex 16) 16 (omega arith) (IsShort-IsExactly LowerHex 16) (HasMore-digits 16 (omega arith))
     (sixteen_digits number) (IsExactly-sixteen_digits number)
 
+-- and the number of a list
 pub IsComponent-decimal : (number : ℕ) → number ≤ 9_223_372_036_854_775_807 → IsComponent (decimal number)
 IsComponent-decimal number within = IsComponent-IsShort (IsNumeral false 9_223_372_036_854_775_807) 19 (omega arith)
     (IsShort-IsNumeral false) (HasMore-IsNumeral false 9_223_372_036_854_775_807) (decimal number)
     (IsNumeral-decimal false 9_223_372_036_854_775_807 number (λ e. cc) within (omega arith))
 
+-- a suffix has at most 27 bytes
 IsShort-IsSuffix : IsShort IsSuffix 27
 unfolding has
 IsShort-IsSuffix =
@@ -63,28 +72,35 @@ IsShort-IsSuffix =
     IsShort-EitherOf (λ bytes. bytes ≡ []) IsSeqSuffix 0 27 27 (omega arith) (omega arith) (IsShort-text [] tt)
     (IsShort-Joined (λ bytes. bytes ≡ word) (Marked (IsNumeral false 9_223_372_036_854_775_807) 95) 7 20 text marked)
 
+-- a file name has at most 59
 IsShort-IsFileName : IsShort IsFileName 59
 IsShort-IsFileName = IsShort-Joined (IsExactly LowerHex 16) (Joined (IsExactly LowerHex 16) IsSuffix) 16 43 (IsShort-IsExactly LowerHex 16)
     (IsShort-Joined (IsExactly LowerHex 16) IsSuffix 16 27 (IsShort-IsExactly LowerHex 16) IsShort-IsSuffix)
 
+-- and is not dots alone
 HasMore-IsFileName : HasMore IsFileName
 HasMore-IsFileName = HasMore-Joined (IsExactly LowerHex 16) (Joined (IsExactly LowerHex 16) IsSuffix) (HasMore-digits 16 (omega arith))
 
+-- it is a component
 pub IsComponent-IsFileName : (bytes : List ℕ) → IsFileName bytes → IsComponent bytes
 IsComponent-IsFileName = IsComponent-IsShort IsFileName 59 (omega arith) IsShort-IsFileName HasMore-IsFileName
 
+-- a link's name has at most 193 bytes
 IsShort-IsLinkName : IsShort IsLinkName 193
 unfolding has
 IsShort-IsLinkName = IsShort-Joined (Marked IsTableName 61) (Joined (Marked IsEncoded 45) IsFileName) 101 92
     (IsShort-Marked IsTableName 61 100 refl IsShort-IsTableName)
     (IsShort-Joined (Marked IsEncoded 45) IsFileName 33 59 (IsShort-Marked IsEncoded 45 32 refl (IsShort-IsExactly LowerHex 32)) IsShort-IsFileName)
 
+-- and is not dots alone
 HasMore-IsLinkName : HasMore IsLinkName
 HasMore-IsLinkName = HasMore-Joined (Marked IsTableName 61) (Joined (Marked IsEncoded 45) IsFileName) (HasMore-Marked IsTableName 61 HasMore-IsTableName)
 
+-- it is a component
 pub IsComponent-IsLinkName : (bytes : List ℕ) → IsLinkName bytes → IsComponent bytes
 IsComponent-IsLinkName = IsComponent-IsShort IsLinkName 193 (omega arith) IsShort-IsLinkName HasMore-IsLinkName
 
+-- so is a reference's name, of at most 226 bytes
 pub IsComponent-IsRefName : (bytes : List ℕ) → IsRefName bytes → IsComponent bytes
 unfolding has
 IsComponent-IsRefName =
@@ -97,6 +113,7 @@ IsComponent-IsRefName =
     (HasMore-Joined (Marked IsFileName 46) IsEncoded (HasMore-Marked IsFileName 46 HasMore-IsFileName))
     (HasMore-Joined (Marked IsLinkName 46) IsEncoded (HasMore-Marked IsLinkName 46 HasMore-IsLinkName)))
 
+-- and a back reference, of at most 133
 pub IsComponent-IsBackRef : (bytes : List ℕ) → IsBackRef bytes → IsComponent bytes
 unfolding has
 IsComponent-IsBackRef = IsComponent-IsShort IsBackRef 133 (omega arith)

@@ -39,13 +39,16 @@ same_spot (WorkManifest m) (WorkManifest n) = same_path (m ∷ []) (n ∷ [])
 same_spot (Staged d f c) (Staged e g k) = same_path (d ∷ f ∷ c ∷ []) (e ∷ g ∷ k ∷ [])
 same_spot _ _ = false
 
+-- a test beside one that fails fails
 never : (a : Bool) → (a && false) ≡ false
 never true = refl
 never false = refl
 
+-- numbers that fail the test differ
 other_number : (m n : ℕ) → nat_eq m n ≡ false → m ≡ n → ⊥
 other_number m n e h = grind (arith, nat_tests)
 
+-- a family that is not the directory of the lists makes the whole test fail
 no_family : (t e f n : Bool) → not f ≡ true → (t && (e && (f && (n && true)))) ≡ false
 no_family true true true n h = absurd (cc)
 no_family true true false n h = refl
@@ -93,10 +96,12 @@ same_path-path (WorkInfo n) (WorkManifest m) h k = never (same_name n m)
 same_path-path (WorkManifest n) (WorkInfo m) h k = never (same_name n m)
 same_path-path _ _ h k = refl
 
+-- the first of two tests that hold together
 left : (a b : Bool) → (a && b) ≡ true → a ≡ true
 left true b e = refl
 left false b e = e
 
+-- the second of them
 right : (a b : Bool) → (a && b) ≡ true → b ≡ true
 right true b e = e
 right false b e = absurd (cc)

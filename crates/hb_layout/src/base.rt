@@ -70,3 +70,36 @@ fn add_base(text: &mut Blob, base: &Base) -> Result<(), NoMemory>
     text.add(b"/")?;
     text.add(base.name.as_slice())
 }
+
+#[cfg(test)]
+mod tests {
+    use super::*;
+    use hb_file_names::FileParts;
+    use std::test::Fail;
+
+    #[test]
+    fn a_base_has_two_places(rt: HostRuntime) -> Result<(), Fail> {
+        let parts = FileParts {
+            epoch: 1,
+            counter: 2,
+            seq: None,
+        };
+        let base = Base {
+            table: TableName::read(rt.alloc(), b"t")?,
+            region: Encoded::read(rt.alloc(), b"0123456789abcdef0123456789abcdef")?,
+            family: FamilyName::read(rt.alloc(), b"f")?,
+            name: FileName::new(rt.alloc(), parts)?,
+        };
+        let copy = base.copy()?;
+        let place = live(rt.alloc(), &copy)?;
+        let mut text = Blob::copy_of(rt.alloc(), b"archive/")?;
+        text.add(place.as_slice())?;
+        assert_eq!(rt; archived(rt.alloc(), &base)?.as_slice(), text.as_slice());
+        assert!(rt;
+            place
+                .as_slice()
+                .starts_with(b"data/default/t/0123456789abcdef0123456789abcdef/f/0000")
+        );
+        Ok(())
+    }
+}
