@@ -2,3 +2,4 @@ pub mod Taking
 pub mod Keys
 pub mod Parts
 pub mod Cells
+pub mod SameKeys

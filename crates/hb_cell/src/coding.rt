@@ -57,7 +57,8 @@ fn seq_at(bytes: &[u8], at: usize, with_seq: bool) -> Result<(Option<u64>, usize
 
 /// The parts of a stored cell at the front of the bytes.
 fn parts_at(bytes: &[u8], with_seq: bool) -> Result<Parts<'_>, CellError>
-    ensures { Gives (λ p. record { key = p.key.now; value = p.value.now; seq = p.seq; used = p.used }) result (parts_at with_seq bytes.now) }
+    ensures { Gives (λ p. record { key = p.key.now; value = p.value.now; seq = p.seq; used = p.used })
+        result (parts_at with_seq bytes.now) }
 {
     if bytes.len() < 8 {
         return Err(CellError::Short(8 - bytes.len()));
@@ -118,7 +119,8 @@ fn family_at(bytes: &[u8]) -> Result<(&[u8], &[u8]), CellError>
 /// The qualifier, the timestamp and the kind behind the family.
 #[tactic(auto, unfolding(crate::specs::Reading::version_at, hb_wire::specs::Fixed::be_number))]
 fn version_at(bytes: &[u8]) -> Result<Version<'_>, CellError>
-    ensures { Gives (λ v. record { qualifier = v.qualifier.now; ts = v.ts; kind = v.kind }) result (version_at bytes.now) }
+    ensures { Gives (λ v. record { qualifier = v.qualifier.now; ts = v.ts; kind = v.kind })
+        result (version_at bytes.now) }
 {
     if bytes.len() < 9 {
         return Err(CellError::FamilyLength);
@@ -206,7 +208,8 @@ pub fn decode_cell(
         × (drop at bytes.now ≡ stored with_seq x.0 ++ drop (at + x.1) bytes.now)) }
     // What is spelled so is read.
     ensures only { (cell : Cell) (rest : List ℕ) → IsCell cell → IsNumbered with_seq cell
-        → drop at bytes.now ≡ stored with_seq cell ++ rest → Gives (λ x. x) result (Ok (cell, length (stored with_seq cell))) }
+        → drop at bytes.now ≡ stored with_seq cell ++ rest
+        → Gives (λ x. x) result (Ok (cell, length (stored with_seq cell))) }
 {
     let (_, rest) = bytes.split_at(at);
     cell_at(alloc, rest, with_seq)
@@ -278,7 +281,8 @@ fn key_len(cell: &Cell) -> usize
 /// Adds the lengths of a cell's key and of its value at the end.
 fn add_lengths(out: &mut Blob, cell: &Cell) -> Result<(), NoMemory>
     requires { IsCell cell.now }
-    ensures ok { OnOk result (out.new ≡ out.old ++ (be_bytes 4 (length (key cell.now)) ++ be_bytes 4 (length cell.now.value))) }
+    ensures ok { OnOk result (out.new
+        ≡ out.old ++ (be_bytes 4 (length (key cell.now)) ++ be_bytes 4 (length cell.now.value))) }
     ensures front { take (length out.old) out.new ≡ out.old }
 {
     put_u32(out, key_len(cell) as u32)?;

@@ -31,7 +31,8 @@ pub fn cells_of_block(
 ) -> Result<Items<Cell>, HFileError>
     requires { at + length content.now < 2 ^ 64 }
     // What is read is these cells' bytes, each byte of them.
-    ensures found { IfOk result (λ cells. AreStorable with_seq cells × (content.now ≡ cells_bytes with_seq cells)) }
+    ensures found { IfOk result (λ cells. AreStorable with_seq cells
+        × (content.now ≡ cells_bytes with_seq cells)) }
     // What is some cells' bytes is read as these cells.
     ensures only { (cells : List Cell) → AreStorable with_seq cells → content.now ≡ cells_bytes with_seq cells
         → GivesCells result cells }
@@ -49,7 +50,8 @@ fn all_cells(
     with_seq: bool,
 ) -> Result<Items<Cell>, HFileError>
     requires { at + length content.now < 2 ^ 64 }
-    ensures found { IfOk result (λ cells. AreStorable with_seq cells × (content.now ≡ cells_bytes with_seq cells)) }
+    ensures found { IfOk result (λ cells. AreStorable with_seq cells
+        × (content.now ≡ cells_bytes with_seq cells)) }
     ensures fault { IfErr result (λ fault. IsBlockFault with_seq content.now at fault) }
 {
     let mut cells = Vec::new(alloc);

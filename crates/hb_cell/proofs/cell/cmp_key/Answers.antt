@@ -1,5 +1,5 @@
 use Rattle.std.proofs.Common.{sym, ◌∙◌}
-use Rattle.hb_cell.specs.OrderLaws.{key_cmp-same, key_cmp-itself}
+use Rattle.hb_cell.proofs.SameKeys.{key_cmp-same, key_cmp-itself}
 use Rattle.hb_cell.proofs.cell.cmp_key.Goals as goal
 
 pub returns-clause-equal : goal.returns-clause-equal
