@@ -1,4 +1,4 @@
-use Rattle.std.proofs.Common.{◌≡◌, ℕ, List, ◌⊎◌, inl, inr, Option, Some, None, refl}
+use Rattle.std.proofs.Common.{◌≡◌, ℕ, List, inl, inr, Option, Some, None, refl}
 use Rattle.hb_grammar.specs.Grammar.{IsLive}
 use Rattle.hb_grammar.specs.Either.{IfLeft, EitherOf}
 

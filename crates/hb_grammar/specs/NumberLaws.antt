@@ -1,4 +1,4 @@
-use Rattle.std.proofs.Common.{◌≡◌, ℕ, ◌<◌, ◌≤◌, List, [], ◌∷◌, Bool, true, Option, Some, None, arith, refl}
+use Rattle.std.proofs.Common.{◌≡◌, ℕ, ◌<◌, ◌≤◌, [], ◌∷◌, Bool, Option, Some, None, arith, refl}
 use Rattle.hb_grammar.specs.Grammar.{IsLive}
 use Rattle.hb_grammar.specs.Number.{NumberFrom}
 

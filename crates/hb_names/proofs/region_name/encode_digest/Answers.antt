@@ -1,4 +1,4 @@
-use Rattle.std.proofs.Common.{◌≡◌, ℕ, List, Vec, Global, ap, sym, ◌∙◌, subst, arith}
+use Rattle.std.proofs.Common.{◌≡◌, ℕ, Vec, Global, ap, sym, ◌∙◌, subst, arith}
 use Rattle.hex.specs.Hex.{encode_lower}
 use Rattle.hb_grammar.specs.declared.class.Class.TheVariants.{LowerHex}
 use Rattle.hb_grammar.specs.Run.{IsExactly}

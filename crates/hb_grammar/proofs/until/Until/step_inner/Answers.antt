@@ -1,4 +1,4 @@
-use Rattle.std.proofs.Common.{◌≡◌, ℕ, List, Some, subst}
+use Rattle.std.proofs.Common.{◌≡◌, ℕ, List, subst}
 use Rattle.hb_grammar.specs.Marked.{Avoids}
 use Rattle.hb_grammar.proofs.MarkedLemmas.{Avoids-Follows, Follows-Marked_end, Refuses-Marked_end, Follows-Marked, Refuses-Marked}
 use Rattle.hb_grammar.proofs.until.Until.step_inner.Goals as goal
