@@ -7,10 +7,11 @@ use Rattle.hb_file_names.specs.FileParts.{sixteen_digits}
 use Rattle.hb_layout.specs.declared.base.Base.{Base}
 use Rattle.hb_layout.specs.Spot.{Spot, Epoch, Tmp, RegionSet, StoreList, Live, Archived, BackRefTo, Info, Manifest, WorkInfo, WorkManifest, Staged, base_path, path}
 
--- whether two names are the same, and two paths, as tests that compute on literals
+-- whether two names are the same, as a test that computes on literals
 abbrev pub same_name : List ℕ → List ℕ → Bool
 same_name m n = pointwise nat_eq m n
 
+-- whether two paths are
 abbrev pub same_path : List (List ℕ) → List (List ℕ) → Bool
 same_path p q = pointwise same_name p q
 
