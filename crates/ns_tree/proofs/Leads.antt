@@ -121,3 +121,11 @@ drop_front (x ∷ p) a = drop_front p a
 -- the way back
 pub target_of-target_of : (from to place : List ℕ) → is_within from place ≡ true → target_of to from (target_of from to place) ≡ place
 target_of-target_of from to place h = ap (λ rest. from ++ rest) (drop_front to (drop (length from) place)) ∙ is_within-drop from place h
+
+rest_cases : (rest : List ℕ) → leads [] rest ≡ true → (rest ≡ []) ⊎ ((back : List ℕ) × (rest ≡ 47 ∷ back))
+rest_cases [] h = inl refl
+rest_cases (y ∷ back) h = let same = eqb-true 47 y h in inr (back, ap (λ z. z ∷ back) (sym same))
+
+-- behind a place that another lies within stands nothing, or a slash and the rest
+pub drop-is_within : (a b : List ℕ) → is_within a b ≡ true → (drop (length a) b ≡ []) ⊎ ((back : List ℕ) × (drop (length a) b ≡ 47 ∷ back))
+drop-is_within a b h = rest_cases (drop (length a) b) (sym (leads-end a (drop (length a) b)) ∙ ap (leads a) (is_within-drop a b h) ∙ sym (leads-is_within a b) ∙ h)

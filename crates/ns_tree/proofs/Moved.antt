@@ -8,8 +8,10 @@ use Rattle.std.specs.Cmp.{both_ways}
 use Rattle.std.specs.Cmp.Lexicographic.{slice_cmp, pointwise, bytes_decides, nat_list_cmp_total}
 use Rattle.std.proofs.lemmas.Bool.{true≢false, cases_Bool, or_left, or_right, or_cases, false_from_ne_true, cond-true, cond-false, and_from, and_parts}
 use Rattle.ns_tree.specs.declared.file.FileState.{FileState}
-use Rattle.ns_tree.specs.Places.{is_below, is_within, target_of, moved_place}
-use Rattle.ns_tree.specs.Tree.{Tree, HasNoFileBelowAFile, is_taken, is_below_file}
+use Rattle.hb_names.specs.Place.{IsPlace}
+use Rattle.ns_tree.proofs.PlaceTexts.{IsPlace-target_of}
+use Rattle.ns_tree.specs.Places.{is_below, is_within, is_too_deep, target_of, moved_place}
+use Rattle.ns_tree.specs.Tree.{Tree, HasNoFileBelowAFile, HasPlaces, is_taken, is_below_file}
 use Rattle.ns_tree.specs.Moves.{IsMovable}
 use Rattle.ns_tree.specs.Step.{moved}
 use Rattle.ns_tree.proofs.Entries.{Files}
@@ -144,3 +146,16 @@ HasNoFileBelowAFile-moved from to tree can unfiled kept above below stands lies 
           ]
           | inr h ↦ true≢false (sym h ∙ out)
         ]
+
+-- every file stands at a place after a move that puts none too deep
+pub HasPlaces-moved : (from to : List ℕ) (tree : Tree) → IsMovable from to tree → IsPlace to → ((q : List ℕ) → is_within from q ≡ true → contains_key tree q ≡ true → is_too_deep (target_of from to q) ≡ false)
+    → HasPlaces tree → HasPlaces (moved from to tree)
+HasPlaces-moved from to tree can valid shallow old q stands =
+    let came = came_from from to tree q can stands in
+    elim (cases_Bool (is_within to q)) as (λ _. IsPlace q) [
+      | inl h ↦
+          let source = is_within-target to from q h in
+          subst IsPlace (target_of-target_of to from q h)
+          (IsPlace-target_of from to (target_of to from q) valid (old (target_of to from q) (came.inside h)) source (shallow (target_of to from q) source (came.inside h)))
+      | inr h ↦ old q (came.outside h).1
+    ]

@@ -14,12 +14,13 @@ use Rattle.ns_tree.specs.declared.file.FileState.{FileState}
 use Rattle.ns_tree.specs.declared.moves.Move.{Move}
 use Rattle.ns_tree.specs.declared.namespace.NsError.{NsError}
 use Rattle.ns_tree.specs.declared.namespace.NsError.TheVariants.{Missing, Inside}
+use Rattle.hb_names.specs.Place.{IsPlace}
 use Rattle.ns_tree.specs.Places.{is_below, is_within, is_too_deep, target_of}
-use Rattle.ns_tree.specs.Tree.{Tree, HasNoFileBelowAFile, is_taken, listing, create_refusal}
+use Rattle.ns_tree.specs.Tree.{Tree, HasNoFileBelowAFile, IsTree, is_taken, listing, create_refusal}
 use Rattle.ns_tree.specs.Moves.{IsMove, IsMovable, IsCopied, IsClearedOfSources, IsClearedOfTargets, is_source, is_target, is_among, AreSources, move_of}
 use Rattle.ns_tree.specs.Step.{moved, is_inside, rename_refusal}
 use Rattle.ns_tree.proofs.Leads.{is_within-on, is_within-target, target_of-target_of}
-use Rattle.ns_tree.proofs.Moved.{HasNoFileBelowAFile-moved, is_within-apart, get-moved-to, get-moved-from, get-moved-other}
+use Rattle.ns_tree.proofs.Moved.{HasNoFileBelowAFile-moved, HasPlaces-moved, is_within-apart, get-moved-to, get-moved-from, get-moved-other}
 use Rattle.ns_tree.proofs.Trees.{same_text, tied_itself, any_key-from, any_key-none, no_key, found, list_any-tied, is_within-same, IsFree-from_no_refusal}
 
 -- a target lies within the new place
@@ -304,3 +305,12 @@ rename_refusal-outside from to tree taken outside = cond-true _ _ _ taken ∙ co
 pub HasNoFileBelowAFile-renamed : (from to : List ℕ) (tree : Tree) → rename_refusal from to tree ≡ None → HasNoFileBelowAFile tree → HasNoFileBelowAFile (moved from to tree)
 HasNoFileBelowAFile-renamed from to tree none = HasNoFileBelowAFile-moved from to tree (IsMovable-renamable from to tree none)
     (IsFree-from_no_refusal to tree (IsRenamable-from_no_refusal from to tree none).free).unfiled
+
+-- a tree of files is one after a rename that nothing refuses
+pub IsTree-renamed : (from to : List ℕ) (tree : Tree) → rename_refusal from to tree ≡ None → IsPlace to → IsTree tree → IsTree (moved from to tree)
+IsTree-renamed from to tree none valid old = record {
+  apart = HasNoFileBelowAFile-renamed from to tree none old.apart;
+  placed = HasPlaces-moved from to tree (IsMovable-renamable from to tree none) valid (λ q within stands.
+      let deep = any_key-none (λ place. is_within from place && is_too_deep (target_of from to place)) tree q (or_parts (is_below from to) _ (IsRenamable-from_no_refusal from to tree none).outside).1 stands in
+      false_from_ne_true _ (λ h. true≢false (sym (and_from (is_within from q) (is_too_deep (target_of from to q)) within h) ∙ deep))) old.placed;
+}

@@ -13,8 +13,11 @@ use Rattle.std.specs.declared.ops.Bound.TheVariants.{Included, Unbounded}
 use Rattle.std.proofs.lemmas.Bool.{true≢false, cases_Bool, cases_lt, or_left, or_right, or_from, or_cases, and_parts, false_from_ne_true}
 use Rattle.ns_tree.specs.declared.file.FileState.{FileState}
 use Rattle.ns_tree.specs.declared.namespace.NsError.TheVariants.{Exists, BelowFile}
+use Rattle.hb_names.specs.Place.{IsPlace}
+use Rattle.std.proofs.lemmas.List.Folds.{list_any-append}
+use Rattle.std.proofs.lemmas.Map.Views.{any-filter_same}
 use Rattle.ns_tree.specs.Places.{is_below, is_within}
-use Rattle.ns_tree.specs.Tree.{Tree, HasNoFileBelowAFile, is_taken, is_below_file, create_refusal}
+use Rattle.ns_tree.specs.Tree.{Tree, HasNoFileBelowAFile, HasPlaces, IsTree, listing, is_taken, is_below_file, create_refusal}
 use Rattle.ns_tree.proofs.Below.{first_passes, is_below-take, is_below-same, IsFront-is_below}
 use Rattle.ns_tree.proofs.Entries.{Files, get_file, is_taken-first}
 
@@ -172,3 +175,41 @@ contains_key-remove tree place q = ap is_some (get-remove nat_list_cmp_total tre
 
 pub HasNoFileBelowAFile-remove : (tree : Tree) (place : List ℕ) → HasNoFileBelowAFile tree → HasNoFileBelowAFile (remove tree place)
 HasNoFileBelowAFile-remove tree place = HasNoFileBelowAFile-fewer tree (remove tree place) (λ q stands. (and_parts (not (eq_by_cmp (slice_cmp nat_cmp) q place)) (contains_key tree q) (sym (contains_key-remove tree place q) ∙ stands)).1)
+
+-- a listed text is one of the tree's
+pub contains_key-listed : (tree : Tree) (front rest : List (List ℕ)) (q : List ℕ) → front ++ q ∷ rest ≡ keys tree → contains_key tree q ≡ true
+contains_key-listed tree front rest q is =
+    contains_key-keys tree q ∙ ap (list_any (eq_by_cmp (slice_cmp nat_cmp) q)) (sym is) ∙ list_any-append (eq_by_cmp (slice_cmp nat_cmp) q) front (q ∷ rest)
+    ∙ or_right (list_any (eq_by_cmp (slice_cmp nat_cmp) q) front) _ (or_left _ _ (tied_itself q))
+
+pub contains_key-listed_below : (dir : List ℕ) (tree : Tree) (front rest : List (List ℕ)) (q : List ℕ) → front ++ q ∷ rest ≡ listing (Some dir) tree → contains_key tree q ≡ true
+contains_key-listed_below dir tree front rest q is =
+    let among = any-filter_same (eq_by_cmp (slice_cmp nat_cmp) q) (is_below dir) (is_below dir q) (λ k h. ap (is_below dir) (sym (same_text q k h))) (keys tree) in
+    let here = list_any-append (eq_by_cmp (slice_cmp nat_cmp) q) front (q ∷ rest) ∙ or_right (list_any (eq_by_cmp (slice_cmp nat_cmp) q) front) _ (or_left _ _ (tied_itself q)) in
+    contains_key-keys tree q ∙ (and_parts (is_below dir q) _ (sym among ∙ ap (list_any (eq_by_cmp (slice_cmp nat_cmp) q)) (sym is) ∙ here)).1
+
+-- the tree of no files, one with a file more, or another in its place, and one with a file less
+pub IsTree-empty : IsTree empty
+IsTree-empty = record {
+  apart = HasNoFileBelowAFile-empty;
+  placed = λ place stands. absurd (true≢false (sym stands ∙ ap is_some (get-empty {X = FileState} (slice_cmp nat_cmp) place)));
+}
+
+HasPlaces-insert : (tree : Tree) (place : List ℕ) (file : FileState) → IsPlace place → HasPlaces tree → HasPlaces (insert tree place file)
+HasPlaces-insert tree place file valid old q stands =
+    elim (or_cases (eq_by_cmp (slice_cmp nat_cmp) q place) (contains_key tree q) (sym (contains_key-insert tree place file q) ∙ stands)) as (λ _. IsPlace q) [
+      | inl here ↦ subst IsPlace (sym (same_text q place here)) valid
+      | inr there ↦ old q there
+    ]
+
+pub IsTree-insert : (tree : Tree) (place : List ℕ) (file : FileState) → IsTree tree → IsPlace place → create_refusal place tree ≡ None → IsTree (insert tree place file)
+IsTree-insert tree place file old valid none = record { apart = HasNoFileBelowAFile-insert tree place file old.apart none; placed = HasPlaces-insert tree place file valid old.placed }
+
+pub IsTree-replace : (tree : Tree) (place : List ℕ) (file : FileState) → contains_key tree place ≡ true → IsTree tree → IsTree (insert tree place file)
+IsTree-replace tree place file stood old = record { apart = HasNoFileBelowAFile-replace tree place file stood old.apart; placed = HasPlaces-insert tree place file (old.placed place stood) old.placed }
+
+pub IsTree-remove : (tree : Tree) (place : List ℕ) → IsTree tree → IsTree (remove tree place)
+IsTree-remove tree place old = record {
+  apart = HasNoFileBelowAFile-remove tree place old.apart;
+  placed = λ q stands. old.placed q (and_parts (not (eq_by_cmp (slice_cmp nat_cmp) q place)) (contains_key tree q) (sym (contains_key-remove tree place q) ∙ stands)).1;
+}

@@ -7,6 +7,7 @@ use Rattle.std.specs.Cmp.Lexicographic.{slice_cmp}
 use Rattle.ns_tree.specs.declared.file.FileState.{FileState}
 use Rattle.ns_tree.specs.declared.namespace.NsError.{NsError}
 use Rattle.ns_tree.specs.declared.namespace.NsError.TheVariants.{Exists, BelowFile}
+use Rattle.hb_names.specs.Place.{IsPlace}
 use Rattle.ns_tree.specs.Places.{is_below, is_within}
 
 -- the map
@@ -16,6 +17,15 @@ Tree = FinMap (slice_cmp nat_cmp) FileState
 -- no file stands below a file
 abbrev pub HasNoFileBelowAFile : Tree → Type 0
 HasNoFileBelowAFile tree = (file place : List ℕ) → IsTrue (contains_key tree file) → IsTrue (is_below file place) → contains_key tree place ≡ false
+
+-- every file stands at a place
+abbrev pub HasPlaces : Tree → Type 0
+HasPlaces tree = (place : List ℕ) → IsTrue (contains_key tree place) → IsPlace place
+
+-- what every tree of files keeps
+pub record IsTree (tree : Tree) : Type 0 where
+  pub apart : HasNoFileBelowAFile tree
+  pub placed : HasPlaces tree
 
 -- whether a file stands at a place or below it
 abbrev pub is_taken : List ℕ → Tree → Bool

@@ -1,12 +1,13 @@
 //! The map from places' texts to files.
 ghost use Rattle.std.specs.Prelude.{◌≡◌, ◌++◌, IfOk, OnOk, OnErr, Some, codes, option_copied};
 ghost use Rattle.std.specs.FinMap as map;
-ghost use Rattle.ns_tree.specs.Tree.{listing, is_taken, is_below_file};
+ghost use Rattle.hb_names.specs.Place.{IsPlace};
+ghost use Rattle.ns_tree.specs.Tree.{listing, is_taken, is_below_file, HasPlaces};
 
 use crate::file::FileState;
 use crate::places::is_below;
 use hb_names::Place;
-use hb_wire::{Blob, Items, NoMemory};
+use hb_wire::{Blob, Copied, Items, NoMemory};
 use std::alloc::{AllocError, Global};
 use std::collections::BTreeMap;
 use std::marker::Model;
@@ -111,16 +112,18 @@ impl Files {
     }
 
     pub(crate) fn places(&self) -> Result<Items<Place>, NoMemory>
+        requires { HasPlaces self.now }
         ensures { IfOk result (λ places. places ≡ map.keys self.now) }
     {
         let mut places = Vec::new(self.alloc);
         for text in self.files.keys() {
-            places.push(place_of(self.alloc, text)?)?;
+            places.push(place_of(text)?)?;
         }
         Ok(Items::from_vec(places))
     }
 
     pub(crate) fn places_below(&self, dir: &Place) -> Result<Items<Place>, NoMemory>
+        requires { HasPlaces self.now }
         ensures { IfOk result (λ places. places ≡ listing (Some dir.now) self.now) }
     {
         let mut places = Vec::new(self.alloc);
@@ -128,7 +131,7 @@ impl Files {
             if !is_below(dir.as_slice(), text.as_slice()) {
                 break;
             }
-            places.push(place_of(self.alloc, text)?)?;
+            places.push(place_of(text)?)?;
         }
         Ok(Items::from_vec(places))
     }
@@ -143,13 +146,10 @@ fn first_below(alloc: Global, dir: &Place) -> Result<Blob, NoMemory>
     Ok(first)
 }
 
-// The place whose text this is. Each text of the map was a place when its file was made or moved, so what can fail
-// is the copy alone.
-fn place_of(alloc: Global, text: &Blob) -> Result<Place, NoMemory>
+// The place whose text this is.
+fn place_of(text: &Blob) -> Result<Place, NoMemory>
+    requires { IsPlace text.now }
     ensures { IfOk result (λ place. place ≡ text.now) }
 {
-    match Place::read(alloc, text.as_slice()) {
-        Ok(place) => Ok(place),
-        Err(_) => Err(AllocError),
-    }
+    Ok(Place::of(text.copy()?))
 }

@@ -5,7 +5,7 @@ ghost use Rattle.std.specs.List.{list_any};
 ghost use Rattle.ns_tree.specs.Moves.{move_of, is_source, AreSources, IsMove, IsMovable, IsCopied, IsClearedOfSources, IsClearedOfTargets};
 ghost use Rattle.ns_tree.specs.Places.{is_within, is_too_deep, target_of};
 ghost use Rattle.ns_tree.specs.Step.{moved};
-ghost use Rattle.ns_tree.specs.Tree.{HasNoFileBelowAFile};
+ghost use Rattle.ns_tree.specs.Tree.{IsTree};
 
 use crate::files::Files;
 use crate::places::component_count;
@@ -63,7 +63,7 @@ pub(crate) fn has_too_deep(moves: &[Move]) -> bool
 impl Files {
     /// The places of the files at or below a place.
     pub(crate) fn sources(&self, from: &Place) -> Result<Items<Place>, NoMemory>
-        requires { HasNoFileBelowAFile self.now }
+        requires { IsTree self.now }
         ensures { IfOk result (AreSources from.now self.now) }
     {
         if !self.has(from.as_blob()) {

@@ -1,5 +1,6 @@
 //! The files of a store, as a value.
 ghost use Rattle.std.specs.Prelude.{◌≡◌, ◌⊎◌, ℕ, List, All, true, ◌++◌, IsTrue, IfOk, IfErr, OnOk, OnErr, Some, None, option_copied, option_map, take, drop};
+ghost use Rattle.hb_names.specs.Place.{IsPlace};
 ghost use Rattle.ns_tree.specs.Moves.{IsMove, is_source};
 ghost use Rattle.ns_tree.specs.Places.{is_within};
 ghost use Rattle.ns_tree.specs.Namespace.{bytes_at, stat_of};
@@ -30,7 +31,7 @@ impl Model for Tree {
     ghost use Rattle.std.specs.Cmp.Lexicographic.{slice_cmp};
     ghost use Rattle.ns_tree.specs.declared.file.FileState.{FileState};
     ghost use Rattle.ns_tree.specs.Coded.{tree_code};
-    ghost use Rattle.ns_tree.specs.Tree.{HasNoFileBelowAFile};
+    ghost use Rattle.ns_tree.specs.Tree.{IsTree};
 
     ghost Value = { map.FinMap (slice_cmp nat_cmp) FileState };
 
@@ -38,7 +39,7 @@ impl Model for Tree {
 
     ghost view = { λ tree. tree.files };
 
-    ghost invariant = { λ tree. HasNoFileBelowAFile tree.files };
+    ghost invariant = { λ tree. IsTree tree.files };
 }
 
 impl Tree {
@@ -151,6 +152,7 @@ impl Tree {
     // The moves of a rename that nothing refuses.
     fn plan(&self, from: &Place, to: &Place) -> Result<Vec<Move>, NsError>
         ensures free { IfOk result (λ moves. rename_refusal from.now to.now self.now ≡ None) }
+        ensures valid { IfOk result (λ moves. IsPlace to.now) }
         ensures each { IfOk result (λ moves. All (IsMove from.now to.now self.now) moves.items) }
         ensures whole { IfOk result (λ moves. (q : List ℕ) → is_within from.now q ≡ true → map.contains_key self.now q ≡ true → is_source moves.items q ≡ true) }
         ensures refused { IfErr result (λ error. (error ≡ NsError.NoMemory) ⊎ (rename_refusal from.now to.now self.now ≡ Some error)) }

@@ -11,5 +11,5 @@ returns-then-not-has c =
 pub returns : goal.returns
 returns c =
     AreSources-file c.args.from.now c.args.self.now c.from_vec.result
-    (ap (contains_key c.args.self.now) (sym c.as_blob.ensures.bytes) ∙ sym c.has.ensures ∙ c.if-not-has.false) c.requires
+    (ap (contains_key c.args.self.now) (sym c.as_blob.ensures.bytes) ∙ sym c.has.ensures ∙ c.if-not-has.false) c.requires.apart
     (c.from_vec.ensures ∙ c.in_ok-push.ensures.items ∙ ap (λ ps. ps ++ c.in_ok-copy.field-0 ∷ []) c.new-places.ensures.items ∙ ap (λ p. p ∷ []) c.in_ok-copy.ensures)

@@ -59,3 +59,6 @@ returns-clause-refused c =
     ∙ ap (list_any (λ m. is_too_deep m.new)) (sym c.as_slice-else-is_below.ensures.value) ∙ sym c.has_too_deep.ensures ∙ c.if-has_too_deep.false in
     let free = rename_refusal-outside c.args.from.now c.args.to.now c.args.self.now taken (or_from _ _ below deep) in
     elim c.in-Err.ensures.refused [ inl memory ↦ inl memory | inr cause ↦ inr (free ∙ cause) ]
+
+pub returns-in-Ok-clause-valid : goal.returns-in-Ok-clause-valid
+returns-in-Ok-clause-valid c = c.as_slice-2.ensures.valid
