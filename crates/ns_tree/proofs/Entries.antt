@@ -1,5 +1,5 @@
 -- The entries of a sorted map as a tree.
-use Rattle.std.proofs.Common.{◌≡◌, ℕ, List, [], ◌∷◌, ◌++◌, Option, Some, None, Bool, true, false, ◌&&◌, ◌||◌, T, cond, nat_eq, refl, sym, ap, subst, ◌∙◌, nat_cmp, codes}
+use Rattle.std.proofs.Common.{◌≡◌, ℕ, List, [], ◌∷◌, ◌++◌, Some, None, Bool, true, false, ◌&&◌, ◌||◌, T, cond, nat_eq, refl, sym, ap, subst, ◌∙◌, nat_cmp, codes}
 use Rattle.std.specs.FinMap.{get, insert, remove, get-insert, get-remove, find, from_entries, from_sorted, entries, keys, contains_key, contains_key-keys, is_sorted, same_map, get-from_entries, get-from_sorted, entries-from_sorted, nat_cmp-IsAntisymmetric, slice_cmp-IsAntisymmetric}
 use Rattle.std.specs.FinMap.Entries.{below_all}
 use Rattle.std.specs.List.{filter, list_any, AllByRecursion}

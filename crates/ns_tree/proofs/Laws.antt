@@ -1,24 +1,23 @@
 -- What stands at every place after a call, what calls keep, and which commute. A call here is one that nothing refuses.
-use Rattle.std.proofs.Common.{◌≡◌, ℕ, List, [], ◌∷◌, Bool, true, false, ◌&&◌, ◌||◌, not, cond, Option, Some, None, option_map, is_some, refl, sym, ap, ◌∙◌, subst, nat_cmp, nat_eq, inl, inr}
-use Rattle.std.specs.FinMap.{get, insert, remove, get-insert, get-remove, contains_key, contains_key-keys, keys, entries, entries_sorted, is_sorted, same_map, nat_cmp-IsAntisymmetric, slice_cmp-IsAntisymmetric}
-use Rattle.std.specs.List.{list_any, filter}
+use Rattle.std.proofs.Common.{◌≡◌, ℕ, List, Bool, true, false, ◌&&◌, ◌||◌, cond, Option, Some, None, option_map, is_some, refl, sym, ap, ◌∙◌, nat_cmp, inl, inr}
+use Rattle.std.specs.FinMap.{get, get-insert, get-remove, contains_key, contains_key-keys, keys, same_map, nat_cmp-IsAntisymmetric, slice_cmp-IsAntisymmetric}
+use Rattle.std.specs.List.{list_any}
 use Rattle.std.specs.Ordering.{eq_by_cmp}
 use Rattle.std.specs.Cmp.{both_ways}
-use Rattle.std.specs.Cmp.Lexicographic.{slice_cmp, pointwise, texts_ties, nat_list_cmp_total}
-use Rattle.std.proofs.lemmas.Bool.{true≢false, cases_Bool, or_left, or_right, or_cases, or_parts, or_from, false_from_ne_true, cond-true, cond-false, and_from, and_parts}
+use Rattle.std.specs.Cmp.Lexicographic.{slice_cmp, nat_list_cmp_total}
+use Rattle.std.proofs.lemmas.Bool.{true≢false, cases_Bool, or_left, or_right, or_parts, false_from_ne_true, cond-true, cond-false, and_parts}
 use Rattle.std.proofs.lemmas.Map.Views.{any-filter_same}
 use Rattle.ns_tree.specs.declared.file.FileState.{FileState}
-use Rattle.ns_tree.specs.declared.namespace.NsError.{NsError}
 use Rattle.ns_tree.specs.declared.namespace.NsError.TheVariants.{Missing, Inside, Exists, BelowFile}
-use Rattle.ns_tree.specs.Apart.{places_of, is_reached, is_passed, AreApart}
+use Rattle.ns_tree.specs.Apart.{is_reached, is_passed, AreApart}
 use Rattle.ns_tree.specs.Places.{is_below, is_within, is_too_deep, target_of}
-use Rattle.ns_tree.specs.Moves.{is_among, IsMovable}
-use Rattle.ns_tree.specs.Step.{Write, Create, Append, Rename, Delete, Touch, step, refusal, put_if_some, with_bytes_added, with_moment, moved, change_refusal, rename_refusal, is_inside}
+use Rattle.ns_tree.specs.Moves.{is_among}
+use Rattle.ns_tree.specs.Step.{Write, Create, Append, Rename, Delete, Touch, step, refusal, put_if_some, with_bytes_added, with_moment, moved, is_inside}
 use Rattle.ns_tree.specs.Tree.{Tree, HasNoFileBelowAFile, listing, is_taken, is_below_file, create_refusal}
 use Rattle.ns_tree.proofs.Leads.{is_within-target}
 use Rattle.ns_tree.proofs.Moved.{get-moved-to, get-moved-from, get-moved-other}
 use Rattle.ns_tree.proofs.Renaming.{IsMovable-renamable, HasNoFileBelowAFile-renamed}
-use Rattle.ns_tree.proofs.Trees.{same_text, tied_itself, any_key-from, no_key, found, is_within-same, HasNoFileBelowAFile-insert, HasNoFileBelowAFile-replace, HasNoFileBelowAFile-remove}
+use Rattle.ns_tree.proofs.Trees.{same_text, any_key-from, found, is_within-same, HasNoFileBelowAFile-insert, HasNoFileBelowAFile-replace, HasNoFileBelowAFile-remove}
 
 -- a changed file stands at its place, and all others as before
 pub get-change : (change : FileState → FileState) (place : List ℕ) (tree : Tree) (q : List ℕ)

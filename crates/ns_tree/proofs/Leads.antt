@@ -1,11 +1,10 @@
 -- A place leads to those at or below it: the same by its first bytes, and what follows.
-use Rattle.std.proofs.Common.{◌≡◌, ℕ, zero, suc, ◌<◌, ◌≤◌, ◌+◌, List, [], ◌∷◌, ◌++◌, Bool, true, false, ◌&&◌, ◌||◌, ◌⊎◌, refl, sym, ap, ◌∙◌, subst, nat_eq, codes, length, drop, arith, inl, inr}
-use Rattle.std.specs.Cmp.Lexicographic.{pointwise, bytes_decides, nat_list_eq_equiv}
-use Rattle.std.specs.List.{starts_with}
-use Rattle.std.proofs.lemmas.Bool.{and_from, and_parts, and_left, or_cases, or_left, or_right, eqb-true, true≢false, false_from_ne_true}
+use Rattle.std.proofs.Common.{◌≡◌, ℕ, ◌<◌, ◌≤◌, List, [], ◌∷◌, ◌++◌, Bool, true, false, ◌&&◌, ◌||◌, ◌⊎◌, refl, sym, ap, ◌∙◌, subst, nat_eq, length, drop, arith, inl, inr}
+use Rattle.std.specs.Cmp.Lexicographic.{pointwise, bytes_decides}
+use Rattle.std.proofs.lemmas.Bool.{and_from, and_parts, or_cases, or_right, eqb-true}
 use Rattle.std.proofs.lemmas.Bool.Decides.{nat_tests}
 use Rattle.ns_tree.specs.Places.{is_below, is_within, target_of}
-use Rattle.ns_tree.proofs.Below.{IsFront-is_below, is_below-same}
+use Rattle.ns_tree.proofs.Below.{IsFront-is_below}
 
 -- `is_within`, byte by byte
 abbrev leads : List ℕ → List ℕ → Bool

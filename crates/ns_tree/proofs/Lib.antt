@@ -1,3 +1,4 @@
+pub mod Ascending
 pub mod Below
 pub mod Entries
 pub mod Laws

@@ -1,13 +1,12 @@
 -- What a rename leaves at every place.
-use Rattle.std.proofs.Common.{◌≡◌, ℕ, List, [], ◌∷◌, ◌++◌, Bool, true, false, ◌&&◌, ◌||◌, cond, Option, Some, None, is_some, refl, sym, ap, ◌∙◌, subst, nat_cmp, map, length, drop, inl, inr, ◌⊎◌, nat_eq}
-use Rattle.std.specs.FinMap.{get, find, keys, entries, from_entries, contains_key, contains_key-keys, get-entries, get-from_entries}
+use Rattle.std.proofs.Common.{◌≡◌, ℕ, List, [], ◌∷◌, ◌++◌, true, false, cond, Some, None, is_some, refl, sym, ap, ◌∙◌, subst, nat_cmp, map, length, drop, inl, inr, nat_eq}
+use Rattle.std.specs.FinMap.{get, find, entries, contains_key, contains_key-keys, get-entries, get-from_entries}
 use Rattle.std.specs.List.{list_any}
 use Rattle.std.specs.Map.{keys_of}
 use Rattle.std.specs.Ordering.{eq_by_cmp}
 use Rattle.std.specs.Cmp.{both_ways}
 use Rattle.std.specs.Cmp.Lexicographic.{slice_cmp, pointwise, bytes_decides, nat_list_cmp_total}
-use Rattle.std.proofs.lemmas.Bool.{true≢false, cases_Bool, or_left, or_right, or_cases, false_from_ne_true, cond-true, cond-false, and_from, and_parts}
-use Rattle.ns_tree.specs.declared.file.FileState.{FileState}
+use Rattle.std.proofs.lemmas.Bool.{true≢false, cases_Bool, or_left, or_right, or_cases, false_from_ne_true, cond-true, cond-false}
 use Rattle.hb_names.specs.Place.{IsPlace}
 use Rattle.ns_tree.proofs.PlaceTexts.{IsPlace-target_of}
 use Rattle.ns_tree.specs.Places.{is_below, is_within, is_too_deep, target_of, moved_place}
@@ -15,8 +14,8 @@ use Rattle.ns_tree.specs.Tree.{Tree, HasNoFileBelowAFile, HasPlaces, is_taken, i
 use Rattle.ns_tree.specs.Moves.{IsMovable}
 use Rattle.ns_tree.specs.Step.{moved}
 use Rattle.ns_tree.proofs.Entries.{Files}
-use Rattle.ns_tree.proofs.Leads.{is_within-on, is_within-one, is_below-on, is_below-longer, is_within-drop, is_below-append, is_within-target, target_of-target_of}
-use Rattle.ns_tree.proofs.Trees.{same_text, tied_itself, any_key-from, any_key-none, is_within-same}
+use Rattle.ns_tree.proofs.Leads.{is_within-on, is_within-one, is_within-drop, is_below-append, is_within-target, target_of-target_of}
+use Rattle.ns_tree.proofs.Trees.{same_text, tied_itself, any_key-none, is_within-same}
 
 -- nothing lies within both
 pub is_within-apart : (from to q : List ℕ) → is_within from to ≡ false → is_within to from ≡ false → is_within to q ≡ true → is_within from q ≡ false

@@ -1,7 +1,6 @@
 -- Where a file of a tree goes is a place, as long as it has no more components than a place may have.
-use Rattle.std.proofs.Common.{◌≡◌, ℕ, zero, suc, ◌+◌, ◌≤◌, List, [], ◌∷◌, ◌++◌, Bool, true, false, ◌⊎◌, cond, count_by, refl, sym, ap, ◌∙◌, subst, nat_eq, nat_lt, length, drop, arith, inl, inr, append_assoc, append-nil, zero-add}
-use Rattle.std.specs.List.{join_with_byte, AllByRecursion, sum_by}
-use Rattle.std.proofs.lemmas.Bool.{true≢false, eqb-true}
+use Rattle.std.proofs.Common.{◌≡◌, ℕ, zero, suc, ◌+◌, ◌≤◌, List, [], ◌∷◌, ◌++◌, true, false, ◌⊎◌, cond, count_by, refl, sym, ap, ◌∙◌, subst, nat_eq, length, arith, inl, inr, append_assoc, append-nil, zero-add}
+use Rattle.std.specs.List.{join_with_byte, AllByRecursion}
 use Rattle.std.proofs.lemmas.Bool.Decides.{nat_tests}
 use Rattle.std.proofs.lemmas.List.Sums.{sum_by-append, sum_by-cons}
 use Rattle.hb_grammar.specs.declared.class.Class.TheVariants.{Component}
@@ -12,7 +11,7 @@ use Rattle.hb_names.specs.Component.{IsComponent}
 use Rattle.hb_names.specs.Place.{IsPlace}
 use Rattle.hb_names.proofs.ComponentLemmas.{Avoids-IsComponent}
 use Rattle.hb_names.proofs.PlaceLemmas.{IsPlace-join_with_byte}
-use Rattle.ns_tree.specs.Places.{is_within, is_too_deep, component_count, target_of}
+use Rattle.ns_tree.specs.Places.{is_within, is_too_deep, target_of}
 use Rattle.ns_tree.proofs.Leads.{is_within-drop, drop-is_within}
 
 -- the components of a text

@@ -1,13 +1,12 @@
 -- The files of a tree, and what every tree keeps.
-use Rattle.std.proofs.Common.{◌≡◌, ℕ, List, [], ◌∷◌, ◌++◌, Bool, true, false, ◌||◌, ◌&&◌, not, cond, IsTrue, Option, Some, None, refl, ap, sym, subst, inl, inr, ◌∙◌, is_some, nat_cmp, nat_eq, codes, length, take, get_or, ◌<◌, ◌≤◌, ◌+◌, arith}
+use Rattle.std.proofs.Common.{◌≡◌, ℕ, List, [], ◌∷◌, ◌++◌, Bool, true, false, ◌||◌, ◌&&◌, not, cond, Option, Some, None, refl, ap, sym, subst, inl, inr, ◌∙◌, is_some, nat_cmp, codes, length, take, get_or, ◌<◌, ◌≤◌, ◌+◌, arith}
 use Rattle.std.specs.FinMap.{empty, get, get-empty, insert, get-insert, remove, get-remove, keys, contains_key, contains_key-keys, from_entries, nat_cmp-IsAntisymmetric, slice_cmp-IsAntisymmetric}
 use Rattle.std.specs.List.{list_any}
 use Rattle.std.specs.List.Sorted.{IsStrictlySortedBy}
-use Rattle.std.specs.Map.{lookup, keys_of}
-use Rattle.std.specs.BTreeMap.{is_at}
+use Rattle.std.specs.Map.{keys_of}
 use Rattle.std.specs.BTreeMap.Range.{entries_between}
 use Rattle.std.specs.Cmp.{Equal-is}
-use Rattle.std.specs.Cmp.Lexicographic.{slice_cmp, pointwise, texts_ties, nat_list_eq_equiv, nat_list_cmp_total}
+use Rattle.std.specs.Cmp.Lexicographic.{slice_cmp, texts_ties, nat_list_eq_equiv, nat_list_cmp_total}
 use Rattle.std.specs.Ordering.{eq_by_cmp}
 use Rattle.std.specs.declared.ops.Bound.TheVariants.{Included, Unbounded}
 use Rattle.std.proofs.lemmas.Bool.{true≢false, cases_Bool, cases_lt, or_left, or_right, or_from, or_cases, and_parts, false_from_ne_true}
@@ -19,7 +18,7 @@ use Rattle.std.proofs.lemmas.Map.Views.{any-filter_same}
 use Rattle.ns_tree.specs.Places.{is_below, is_within}
 use Rattle.ns_tree.specs.Tree.{Tree, HasNoFileBelowAFile, HasPlaces, IsTree, listing, is_taken, is_below_file, create_refusal}
 use Rattle.ns_tree.proofs.Below.{first_passes, is_below-take, is_below-same, IsFront-is_below}
-use Rattle.ns_tree.proofs.Entries.{Files, get_file, is_taken-first}
+use Rattle.ns_tree.proofs.Entries.{Files, is_taken-first}
 
 -- texts that tie are equal
 pub same_text : (p q : List ℕ) → eq_by_cmp (slice_cmp nat_cmp) p q ≡ true → p ≡ q

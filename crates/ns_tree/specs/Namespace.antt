@@ -5,7 +5,7 @@ use Rattle.ns_tree.specs.declared.file.Stat.{Stat}
 use Rattle.ns_tree.specs.declared.namespace.NsError.{NsError}
 use Rattle.ns_tree.specs.declared.namespace.NsError.TheVariants.{Missing, Inside, Exists, BelowFile, Failed, NoMemory}
 use Rattle.ns_tree.specs.Tree.{Tree}
-use Rattle.ns_tree.specs.Step.{Write, Create, Append, Rename, Delete, Touch, step, refusal}
+use Rattle.ns_tree.specs.Step.{Write, step, refusal}
 
 -- a writing call is done: the tree is as the call leaves it, and nothing refused the call
 abbrev pub IsDone : Write → Option Tree → Option Tree → Type 0

@@ -2,8 +2,6 @@
 use Rattle.std.specs.Prelude.{ℕ, List, ◌++◌, Option, Some, None, option_map, Bool, ◌&&◌, ◌||◌, cond, map}
 use Rattle.std.specs.FinMap.{get, contains_key, insert, remove, from_entries, entries, keys}
 use Rattle.std.specs.List.{list_any}
-use Rattle.std.specs.Ordering.{nat_cmp}
-use Rattle.std.specs.Cmp.Lexicographic.{slice_cmp}
 use Rattle.ns_tree.specs.declared.file.FileState.{FileState}
 use Rattle.ns_tree.specs.declared.namespace.NsError.{NsError}
 use Rattle.ns_tree.specs.declared.namespace.NsError.TheVariants.{Missing, Inside}

@@ -1,5 +1,5 @@
 -- The files of a store, as a map from places to files in byte order of the places' texts.
-use Rattle.std.specs.Prelude.{◌≡◌, ℕ, List, Option, Some, None, Bool, true, false, cond, IsTrue}
+use Rattle.std.specs.Prelude.{◌≡◌, ℕ, List, Option, Some, None, Bool, false, cond, IsTrue}
 use Rattle.std.specs.List.{filter, list_any}
 use Rattle.std.specs.FinMap.{FinMap, keys, contains_key}
 use Rattle.std.specs.Ordering.{nat_cmp}

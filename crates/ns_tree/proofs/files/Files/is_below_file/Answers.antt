@@ -1,4 +1,4 @@
-use Rattle.std.proofs.Common.{◌≡◌, ◌∙◌, ap, sym, subst, arith, length, get_or, take}
+use Rattle.std.proofs.Common.{◌∙◌, ap, sym, arith, length, get_or, take}
 use Rattle.std.specs.FinMap.{contains_key}
 use Rattle.ns_tree.proofs.Trees.{is_below_file-found, is_below_file-none, HasNoFileAbove-slash, HasNoFileAbove-other}
 use Rattle.ns_tree.proofs.files.Files.is_below_file.Goals as goal

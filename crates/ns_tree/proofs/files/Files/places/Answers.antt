@@ -1,4 +1,4 @@
-use Rattle.std.proofs.Common.{◌≡◌, ◌∙◌, ◌++◌, ap, sym}
+use Rattle.std.proofs.Common.{◌∙◌, ◌++◌, ap, sym}
 use Rattle.ns_tree.proofs.Entries.{keys-from_entries}
 use Rattle.ns_tree.proofs.Trees.{contains_key-listed}
 use Rattle.ns_tree.proofs.files.Files.places.Goals as goal

@@ -1,4 +1,4 @@
-use Rattle.std.proofs.Common.{◌≡◌, ◌∙◌, ap, sym, subst, None}
+use Rattle.std.proofs.Common.{◌∙◌, ap, sym, subst}
 use Rattle.ns_tree.specs.Step.{rename_refusal}
 use Rattle.ns_tree.specs.Tree.{IsTree}
 use Rattle.ns_tree.proofs.Renaming.{IsMovable-renamable, IsTree-renamed}
