@@ -1,12 +1,8 @@
-use Rattle.std.proofs.Common.{◌≡◌, ℕ, ◌-◌, ◌+◌, ◌<◌, ◌≤◌, List, [], ◌∷◌, ◌++◌, length, take, drop, refl, ap, ◌∙◌, sym, subst, arith, false, codes, inl, inr}
+use Rattle.std.proofs.Common.{◌≡◌, ℕ, ◌-◌, ◌+◌, ◌<◌, ◌≤◌, List, [], ◌∷◌, ◌++◌, length, take, drop, ap, ◌∙◌, sym, subst, arith, false, codes, inl, inr}
 use Rattle.std.proofs.Math.Seq.{take-append_seam}
 use Rattle.std.proofs.lemmas.List.{length-append}
 use Rattle.hb_grammar.specs.Number.{IsNumeral}
-use Rattle.hb_grammar.specs.Joined.{Joined}
-use Rattle.hb_grammar.specs.Marked.{Marked}
 use Rattle.hb_file_names.specs.FileName.{IsSeqSuffix, IsSuffix}
-use Rattle.hb_file_names.specs.FileParts.{suffix_text}
-use Rattle.hb_file_names.proofs.SplitLemmas.{IsSplit, IsSplit-Joined}
 
 -- the digits within a suffix, with what stands round them
 pub record HasDigits (bytes : List ℕ) : Type 0 where

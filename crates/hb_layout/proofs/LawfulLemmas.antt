@@ -1,4 +1,4 @@
-use Rattle.std.proofs.Common.{◌≡◌, ℕ, ◌≤◌, ◌<◌, ◌^◌, ◌⊎◌, not, Bool, true, false, List, [], ◌∷◌, ◌++◌, length, codes, refl, sym, ap, ◌∙◌, subst, arith, inl, inr}
+use Rattle.std.proofs.Common.{◌≡◌, ℕ, ◌≤◌, ◌⊎◌, not, Bool, true, false, List, [], ◌∷◌, ◌++◌, length, codes, refl, sym, ap, ◌∙◌, arith, inl, inr}
 use Rattle.std.specs.Cmp.{nat_eq_equiv}
 use Rattle.std.specs.Cmp.Lexicographic.{lists_equiv, same_text}
 use Rattle.std.specs.List.{join_with_byte, AllByRecursion}
@@ -19,7 +19,7 @@ use Rattle.hb_file_names.specs.FileParts.{sixteen_digits}
 use Rattle.hb_file_names.proofs.DigitsLemmas.{sixteen_digits-injective}
 use Rattle.hb_layout.specs.declared.base.Base.{Base}
 use Rattle.hb_layout.specs.Spot.{Spot, Epoch, Tmp, RegionSet, StoreList, Live, Archived, BackRefTo, Info, Manifest, WorkInfo, WorkManifest, Staged, base_path, path, place_text}
-use Rattle.hb_layout.specs.Lawful.{HasNames, IsLawful}
+use Rattle.hb_layout.specs.Lawful.{IsLawful}
 use Rattle.hb_layout.proofs.JoinLemmas.{join_with_byte-injective}
 use Rattle.hb_layout.proofs.NameLemmas.{IsComponent-IsTableName, IsComponent-IsFamilyName, IsComponent-IsEncoded, IsComponent-sixteen_digits, IsComponent-decimal, IsComponent-IsFileName, IsComponent-IsLinkName, IsComponent-IsRefName, IsComponent-IsBackRef, IsComponent-links}
 use Rattle.hb_layout.proofs.PathLemmas.{same_name, same_path, filelist, is_apart, same_spot, same_path-path, path_equal}

@@ -1,13 +1,12 @@
-use Rattle.std.proofs.Common.{◌≡◌, ℕ, ◌≤◌, ◌<◌, ◌^◌, List, [], ◌∷◌, ◌++◌, length, refl, true, false, arith, codes, inl, inr}
+use Rattle.std.proofs.Common.{◌≡◌, ℕ, ◌≤◌, ◌<◌, List, [], ◌++◌, refl, false, arith, codes}
 use Rattle.std.specs.Fmt.{decimal}
 use Rattle.std.proofs.lemmas.List.{length-append}
-use Rattle.hb_grammar.specs.declared.class.Class.TheVariants.{LowerHex, Name, NameStart, FamilyStart, Component}
-use Rattle.hb_grammar.specs.Class.{has, AllIn}
+use Rattle.hb_grammar.specs.declared.class.Class.TheVariants.{LowerHex, Name, NameStart, FamilyStart}
+use Rattle.hb_grammar.specs.Class.{has}
 use Rattle.hb_grammar.specs.Run.{IsRun, IsExactly}
 use Rattle.hb_grammar.specs.Number.{IsNumeral}
 use Rattle.hb_grammar.specs.Joined.{Joined}
 use Rattle.hb_grammar.specs.Marked.{Marked}
-use Rattle.hb_grammar.specs.Either.{EitherOf}
 use Rattle.hb_grammar.proofs.DecimalLemmas.{IsNumeral-decimal}
 use Rattle.hb_names.specs.Component.{IsComponent}
 use Rattle.hb_names.specs.TableName.{IsTableName}

@@ -1,4 +1,4 @@
-use Rattle.std.specs.Prelude.{ℕ, ◌≤◌, ◌⊎◌, List}
+use Rattle.std.specs.Prelude.{ℕ, ◌≤◌, ◌⊎◌}
 use Rattle.hb_names.specs.Component.{IsComponent}
 use Rattle.hb_names.specs.TableName.{IsTableName}
 use Rattle.hb_names.specs.FamilyName.{IsFamilyName}
