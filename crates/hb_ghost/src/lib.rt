@@ -59,26 +59,12 @@ impl<T> Reads<Ghost<T>, T> for Same {
     ghost reads = { λ x. x };
 }
 
-/// Reads a value that is there.
-pub struct Itself;
-
-impl<T> Reads<T, T> for Itself {
-    ghost reads = { λ x. x };
-}
-
 impl<T> Ghost<T> {
     /// A second ghost of the same value.
     pub fn copy(&self) -> Ghost<T>
         ensures { result ≡ self.now }
     {
         Ghost::<T>::of::<Ghost<T>, Same>(self)
-    }
-
-    /// A ghost of a value that is there.
-    pub fn of_value(x: &T) -> Ghost<T>
-        ensures { result ≡ x.now }
-    {
-        Ghost::<T>::of::<T, Itself>(x)
     }
 }
 
@@ -87,10 +73,16 @@ mod tests {
     use super::*;
     use std::thread;
 
+    struct Itself;
+
+    impl<T> Reads<T, T> for Itself {
+        ghost reads = { λ x. x };
+    }
+
     // A ghost goes to another thread, and is shared with one.
     #[test]
     fn crosses_threads(rt: HostRuntime) {
-        let seven = Ghost::of_value(&7u32);
+        let seven = Ghost::<u32>::of::<u32, Itself>(&7);
         let (one, two) = thread::join(&rt, || seven.copy(), || seven.copy());
         assert_eq!(rt; size_of::<Ghost<u32>>(), 0);
         drop((one, two));

@@ -1,5 +1,5 @@
 -- `of` makes a value of no bytes, which stands for what is read off the argument.
-use Rattle.std.proofs.Common.{List, [], ◌∷◌, refl}
+use Rattle.std.proofs.Common.{[], ◌∷◌, refl}
 use mir.Syntax.{a_type, dcons, dnil}
 use mir.Val.{Val, vptr, vstruct, vcons, vnil}
 use mir.MapTy.{inst_fn}
@@ -12,7 +12,7 @@ use types.Part.{agg}
 use contract.Running.{tables}
 use denote.Exit.{yes}
 use denote.RattleType.{RattleType, owns}
-use denote.Signature.{types_at, plain, named_lft}
+use denote.Signature.{types_at, plain}
 use denote.Steps.{nothing}
 use denote.Param.{param, bounded}
 use denote.Builtin.{RefOf}
