@@ -21,6 +21,14 @@ fn behind_digits(alloc: Global, rest: &[u8]) -> Result<Blob, NoMemory> {
     Ok(text)
 }
 
+fn front(text: &[u8], len: usize) -> &[u8] {
+    if len <= text.len() {
+        &text[..len]
+    } else {
+        text
+    }
+}
+
 fn made(alloc: Global) -> Result<RefName, NameError> {
     let region = Encoded::read(alloc, DIGITS)?;
     let table = TableName::read(alloc, b"t")?;
@@ -65,7 +73,12 @@ fn the_parts_of_a_file_name(rt: HostRuntime) -> Result<(), Fail> {
 
 #[test]
 fn the_place_of_a_fault_in_a_back_reference(rt: HostRuntime) -> Result<(), Fail> {
-    let table: [(&[u8], Option<usize>); 3] = [(b".t", None), (b".-t", Some(33)), (b"=", Some(32))];
+    let table: [(&[u8], Option<usize>); 4] = [
+        (b".t", None),
+        (b".", Some(33)),
+        (b".-t", Some(33)),
+        (b"=", Some(32)),
+    ];
     for (rest, fault) in table {
         let text = behind_digits(rt.alloc(), rest)?;
         assert_eq!(rt; place_of(BackRef::parse(text.as_slice())), fault);
@@ -74,11 +87,28 @@ fn the_place_of_a_fault_in_a_back_reference(rt: HostRuntime) -> Result<(), Fail>
 }
 
 #[test]
-fn a_name_of_digits_may_become_that_of_a_link(rt: HostRuntime) -> Result<(), Fail> {
-    let text = behind_digits(rt.alloc(), b"_Seq=")?;
-    assert_eq!(rt; place_of(RefName::parse(text.as_slice())), Some(37));
-    assert_eq!(rt; place_of(LinkName::parse(b"t==")), Some(2));
+fn the_places_of_faults_in_a_link_and_a_reference(rt: HostRuntime) -> Result<(), Fail> {
     let half = made(rt.alloc())?;
-    assert_eq!(rt; half.as_slice().len(), 100);
+    let text = half.as_slice();
+    let links: [(&[u8], Option<usize>); 4] = [
+        (front(text, 67), None),
+        (front(text, 66), Some(66)),
+        (front(text, 34), Some(34)),
+        (b"t==", Some(2)),
+    ];
+    for (bytes, fault) in links {
+        assert_eq!(rt; place_of(LinkName::parse(bytes)), fault);
+    }
+    let digits = behind_digits(rt.alloc(), b"_Seq=")?;
+    let halves: [(&[u8], Option<usize>); 5] = [
+        (text, None),
+        (front(text, 99), Some(99)),
+        (front(text, 67), Some(67)),
+        (b"=", Some(0)),
+        (digits.as_slice(), Some(37)),
+    ];
+    for (bytes, fault) in halves {
+        assert_eq!(rt; place_of(RefName::parse(bytes)), fault);
+    }
     Ok(())
 }
