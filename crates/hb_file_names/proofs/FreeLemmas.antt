@@ -1,26 +1,14 @@
-use Rattle.std.proofs.Common.{◌≡◌, ℕ, ◌*◌, ◌+◌, ◌-◌, List, [], ◌∷◌, Bool, false, codes, refl, eqb}
+use Rattle.std.proofs.Common.{◌≡◌, ℕ, List, [], false, codes, refl}
 use Rattle.hb_grammar.specs.declared.class.Class.TheVariants.{LowerHex, Name, NameStart}
-use Rattle.hb_grammar.specs.Class.{has, is_digit}
+use Rattle.hb_grammar.specs.Class.{has}
 use Rattle.hb_grammar.specs.Run.{IsExactly, IsRun}
-use Rattle.hb_grammar.specs.Number.{DigitsAfter, IsNumeral}
+use Rattle.hb_grammar.specs.Number.{IsNumeral}
 use Rattle.hb_grammar.specs.Joined.{Joined}
 use Rattle.hb_grammar.specs.Marked.{Marked, Avoids}
-use Rattle.hb_grammar.proofs.AvoidsLemmas.{Lacks, Free, Avoids-Free, Free-IsRun, Free-IsExactly, Free-Joined, Free-EitherOf, Free-text, Free-Marked, eqb_apart}
+use Rattle.hb_grammar.proofs.AvoidsLemmas.{Free, Avoids-Free, Free-IsRun, Free-IsExactly, Free-Joined, Free-EitherOf, Free-text, Free-Marked, Free-IsNumeral}
 use Rattle.hb_names.specs.Encoded.{IsEncoded}
 use Rattle.hb_names.specs.TableName.{IsTableName}
 use Rattle.hb_file_names.specs.FileName.{IsSeqSuffix, IsSuffix, IsFileName}
-
--- the digits behind a number's first ones lack a byte that is no digit
-Lacks-DigitsAfter : (mark max value : ℕ) → is_digit mark ≡ false → (bytes : List ℕ) → DigitsAfter max value bytes → Lacks mark bytes
-Lacks-DigitsAfter mark max value outside [] after = tt
-Lacks-DigitsAfter mark max value outside (digit ∷ digits) after =
-    (eqb_apart is_digit digit mark after.1 outside (eqb digit mark) refl, Lacks-DigitsAfter mark max (value * 10 + (digit - 48)) outside digits after.2)
-
--- so do numerals
-Free-IsNumeral : (positive : Bool) (max mark : ℕ) → is_digit mark ≡ false → Free (IsNumeral positive max) mark
-Free-IsNumeral positive max mark outside [] numeral = absurd numeral
-Free-IsNumeral positive max mark outside (digit ∷ digits) numeral =
-    (eqb_apart is_digit digit mark numeral.0 outside (eqb digit mark) refl, Lacks-DigitsAfter mark max (digit - 48) outside digits numeral.2)
 
 -- no number has _
 pub Avoids-IsNumeral : Avoids (IsNumeral false 9_223_372_036_854_775_807) 95

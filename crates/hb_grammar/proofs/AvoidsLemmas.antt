@@ -1,7 +1,8 @@
-use Rattle.std.proofs.Common.{◌≡◌, ℕ, rules, List, [], ◌∷◌, ◌++◌, refl, Bool, true, false, eqb, sym, ap, subst, inl, inr}
+use Rattle.std.proofs.Common.{◌≡◌, ℕ, ◌+◌, ◌*◌, ◌-◌, rules, List, [], ◌∷◌, ◌++◌, refl, Bool, true, false, eqb, sym, ap, subst, inl, inr}
 use Rattle.std.proofs.lemmas.Bool.{eqb-true}
 use Rattle.hb_grammar.specs.declared.class.Class.{Class}
-use Rattle.hb_grammar.specs.Class.{has, AllIn}
+use Rattle.hb_grammar.specs.Class.{has, is_digit, AllIn}
+use Rattle.hb_grammar.specs.Number.{DigitsAfter, IsNumeral}
 use Rattle.hb_grammar.specs.Run.{IsRun, IsExactly}
 use Rattle.hb_grammar.specs.Joined.{Joined}
 use Rattle.hb_grammar.specs.Marked.{Marked, Avoids}
@@ -71,3 +72,15 @@ Free-text text mark lacks bytes e = subst (Lacks mark) (sym e) lacks
 pub Free-Marked : (inner : List ℕ → Type 0) (other mark : ℕ) → Free inner mark → eqb other mark ≡ false → Free (Marked inner other) mark
 Free-Marked inner other mark free apart bytes marked =
     subst (Lacks mark) (sym marked.whole) (Lacks-append mark marked.front (other ∷ []) (free marked.front marked.in_inner) (apart, tt))
+
+-- the digits behind a number's first ones lack a byte that is no digit
+Lacks-DigitsAfter : (mark max value : ℕ) → is_digit mark ≡ false → (bytes : List ℕ) → DigitsAfter max value bytes → Lacks mark bytes
+Lacks-DigitsAfter mark max value outside [] after = tt
+Lacks-DigitsAfter mark max value outside (digit ∷ digits) after =
+    (eqb_apart is_digit digit mark after.1 outside _ refl, Lacks-DigitsAfter mark max (value * 10 + (digit - 48)) outside digits after.2)
+
+-- so do numerals
+pub Free-IsNumeral : (positive : Bool) (max mark : ℕ) → is_digit mark ≡ false → Free (IsNumeral positive max) mark
+Free-IsNumeral positive max mark outside [] numeral = absurd numeral
+Free-IsNumeral positive max mark outside (digit ∷ digits) numeral =
+    (eqb_apart is_digit digit mark numeral.0 outside _ refl, Lacks-DigitsAfter mark max (digit - 48) outside digits numeral.2)

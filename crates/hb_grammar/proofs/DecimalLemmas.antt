@@ -55,3 +55,7 @@ pub IsNumeral-decimal : (positive : Bool) (max number : ℕ) → (positive ≡ t
 IsNumeral-decimal positive max number some within small =
     let writes = decimal_by_steps Writes Writes-one Writes-push number small in
     IsNumeral-le positive number max (decimal number) within (writes.numeral positive some)
+
+-- a number is what its decimal stands for
+pub value_after-decimal : (number : ℕ) → number < 2 ^ 64 → value_after 0 (decimal number) ≡ number
+value_after-decimal number small = let writes = decimal_by_steps Writes Writes-one Writes-push number small in writes.value

@@ -7,3 +7,11 @@ pub mod SeparatedLemmas
 pub mod AvoidsLemmas
 pub mod NumberLemmas
 pub mod DecimalLemmas
+pub mod FrontLemmas
+pub mod LeavesLemmas
+pub mod TextOfLemmas
+pub mod MarkedTextLemmas
+pub mod RowsLemmas
+pub mod AtLeastLemmas
+pub mod BetweenLemmas
+pub mod NumeralBetweenLemmas

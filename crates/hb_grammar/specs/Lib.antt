@@ -13,3 +13,10 @@ pub mod SeparatedLaws
 pub mod TextLaws
 pub mod Number
 pub mod NumberLaws
+pub mod Front
+pub mod TextOf
+pub mod Rows
+pub mod AtLeast
+pub mod AtLeastLaws
+pub mod Between
+pub mod BetweenLaws

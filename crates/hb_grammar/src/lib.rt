@@ -9,10 +9,13 @@
 //! `specs/`, and the laws of `Same` show that both have the same strings.
 #![tactic(auto)]
 
+pub mod at_least;
+pub mod between;
 pub mod class;
 pub mod either;
 pub mod end;
 pub mod exactly;
+pub mod front;
 pub mod grammar;
 pub mod literal;
 pub mod number;
@@ -21,10 +24,13 @@ pub mod separated;
 pub mod then;
 pub mod until;
 
+pub use at_least::AtLeast;
+pub use between::Between;
 pub use class::Class;
 pub use either::Either;
 pub use end::End;
 pub use exactly::Exactly;
+pub use front::{split_front, split_marked};
 pub use grammar::{Closed, Fault, Grammar, scan};
 pub use literal::Literal;
 pub use number::{Number, number_of};

@@ -19,7 +19,7 @@ pub struct Number {
 }
 
 /// The number with a digit more, if that is not above the limit.
-fn with_digit(value: u64, digit: u64, max: u64) -> Option<u64>
+pub(crate) fn with_digit(value: u64, digit: u64, max: u64) -> Option<u64>
     requires { value ≤ max }
     ensures some { IfSome result (λ more. (more ≡ value * 10 + digit) × (more ≤ max)) }
     ensures none { IfNone result (max < value * 10 + digit) }

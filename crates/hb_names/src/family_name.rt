@@ -57,6 +57,16 @@ impl FamilyName {
         })
     }
 
+    /// The name of bytes that are known to be one, with a copy of them.
+    pub fn of(alloc: Global, bytes: &[u8]) -> Result<FamilyName, NoMemory>
+        requires { IsFamilyName bytes.now }
+        ensures { IfOk result (λ name. name ≡ bytes.now) }
+    {
+        Ok(FamilyName {
+            text: Blob::copy_of(alloc, bytes)?,
+        })
+    }
+
     /// Adds the name's bytes at the end of `out`. Without memory for them nothing changes.
     pub fn write(&self, out: &mut Blob) -> Result<(), NoMemory>
         ensures ok { OnOk result (out.new ≡ out.old ++ self.now) }
