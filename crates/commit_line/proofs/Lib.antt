@@ -1,0 +1,6 @@
+pub mod ReadLemmas
+pub mod RowLemmas
+pub mod NumberLineLemmas
+pub mod RefusalLemmas
+pub mod NumberToldLemmas
+pub mod WordLemmas

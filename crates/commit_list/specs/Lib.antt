@@ -1,0 +1,3 @@
+pub mod ListEntry
+pub mod RegionList
+pub mod CommitNumber

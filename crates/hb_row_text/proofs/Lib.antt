@@ -1,0 +1,5 @@
+pub mod DigitLemmas
+pub mod RowTextLemmas
+pub mod OrderLemmas
+pub mod NextRowLemmas
+pub mod LeastLemmas

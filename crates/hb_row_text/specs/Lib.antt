@@ -1,0 +1,4 @@
+pub mod RowText
+pub mod RowDigits
+pub mod RowDigitsLaws
+pub mod NextRow

@@ -1,0 +1,11 @@
+pub mod StateLemmas
+pub mod FieldLemmas
+pub mod RowReadLemmas
+pub mod FamilyLineLemmas
+pub mod FamilyReadLemmas
+pub mod RegionOrderLemmas
+pub mod RegionPartsLemmas
+pub mod RegionLineLemmas
+pub mod RegionsLemmas
+pub mod BodyLemmas
+pub mod SetLemmas

@@ -1,0 +1,63 @@
+//! Which bytes are region sets, and where others leave the grammar.
+
+use crate::RegionSet;
+use commit_line::ListError;
+use hb_names::TableName;
+use std::alloc::Global;
+use std::test::Fail;
+
+const SET: &[u8] =
+    b"set 1\nenabled\nfamily f 3\nfamily g 1\nregion 7 open - 6d\nregion 6 split 6d -\nend\n";
+
+/// The place of a fault, if there is one.
+fn place_of(found: Result<RegionSet, ListError>) -> Option<u64> {
+    match found {
+        Err(ListError::BadList(place)) => Some(place),
+        _ => None,
+    }
+}
+
+#[test]
+fn a_set_is_read_and_written(rt: HostRuntime) -> Result<(), Fail> {
+    let alloc: Global = rt.alloc();
+    let table = TableName::read(alloc, b"t")?;
+    let set = RegionSet::read(alloc, 1, &table, SET)?;
+    assert!(rt; set.is_valid());
+    assert_eq!(rt; set.schema.families.len(), 2);
+    assert_eq!(rt; set.regions.len(), 2);
+    assert_eq!(rt; set.encode(alloc)?.as_slice(), SET);
+    assert_eq!(rt; place_of(RegionSet::read(alloc, 2, &table, SET)), Some(0));
+    Ok(())
+}
+
+/// Files with a byte turned or left out, lines exchanged, and bytes behind the end, with their faults.
+const FAULTS: [(&[u8], u64); 10] = [
+    (b"set 01\nenabled\nend\n", 4),
+    (b"set 1\nenable\nend\n", 12),
+    (b"set 1\ndropped\nfamily f 3\nend\n", 14),
+    (b"set 1\nenabled\nfamily g 1\nfamily f 3\nend\n", 32),
+    (b"set 1\nenabled\nfamily f 0\nend\n", 23),
+    (
+        b"set 1\nenabled\nregion 7 open 6d -\nregion 6 open 6d -\nend\n",
+        49,
+    ),
+    (b"set 1\nenabled\nregion 7 op", 25),
+    (b"set 1\nenabled\nregion 7 open 6 -\nend\n", 29),
+    (b"set 1\ndisabled\nend\nx", 19),
+    (
+        b"set 1\nenabled\nregion 18446744073709551616 open - -\nend\n",
+        40,
+    ),
+];
+
+#[test]
+fn the_place_of_a_fault(rt: HostRuntime) -> Result<(), Fail> {
+    let table = TableName::read(rt.alloc(), b"t")?;
+    for (bytes, place) in FAULTS {
+        assert_eq!(rt;
+            place_of(RegionSet::decode(rt.alloc(), &table, bytes)),
+            Some(place)
+        );
+    }
+    Ok(())
+}
