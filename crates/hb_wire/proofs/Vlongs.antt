@@ -6,8 +6,8 @@ use Rattle.std.proofs.lemmas.Bool.{cases_lt, lt-ltb, le-ltb, ltb-true, ltb-false
 use Rattle.std.proofs.lemmas.List.{take-append-drop, drop-drop, length-append, length-drop}
 use Rattle.byteorder.specs.Endian.{big_from}
 use Rattle.byteorder.specs.Numbers.{big_number-reads_back, length-bytes_high_first}
-use Rattle.hb_wire.specs.declared.vlong.WireError.{WireError}
-use Rattle.hb_wire.specs.declared.vlong.WireError.TheVariants.{Short, Overlong}
+use Rattle.hb_wire.specs.declared.fault.WireError.{WireError}
+use Rattle.hb_wire.specs.declared.fault.WireError.TheVariants.{Short, Overlong}
 use Rattle.hb_wire.specs.Vlong.{byte_count, counted, vlong, stored_at, read_as, vlong_at}
 use Rattle.hb_wire.proofs.BigEndian.{IsBytes, IsBytes-drop, IsBytes-rest, bytes_high_first-big_from}
 

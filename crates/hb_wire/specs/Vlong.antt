@@ -1,11 +1,11 @@
 -- Hadoop's variable-length numbers, of 64 bits with a sign (org.apache.hadoop.io.WritableUtils.writeVLong).
 -- From -112 to 127 a number is one byte. Else the first byte tells the sign and how many bytes follow, the
 -- fewest that hold the number or, where it is negative, its complement, the highest byte first.
-use Rattle.std.specs.Prelude.{ℕ, ◌+◌, ◌-◌, ◌^◌, ℤ, pos, negsuc, ◌||◌, ◌==◌, not, nat_lt, nat_le, if◌then◌else◌, List, [], ◌∷◌, length, Result, Ok, Err}
-use Rattle.std.specs.Int.{bytes_high_first}
+use Rattle.std.specs.Prelude.{◌≢◌, ◌++◌, FitsSigned, ℕ, ◌+◌, ◌-◌, ◌^◌, ℤ, pos, negsuc, ◌||◌, ◌==◌, not, nat_lt, nat_le, if◌then◌else◌, List, [], ◌∷◌, length, Result, Ok, Err}
+use Rattle.std.specs.Int.{w64, bytes_high_first}
 use Rattle.byteorder.specs.Endian.{big_number}
-use Rattle.hb_wire.specs.declared.vlong.WireError.{WireError}
-use Rattle.hb_wire.specs.declared.vlong.WireError.TheVariants.{Short, Overlong}
+use Rattle.hb_wire.specs.declared.fault.WireError.{WireError}
+use Rattle.hb_wire.specs.declared.fault.WireError.TheVariants.{Short, Overlong}
 
 -- how many bytes hold a number of 64 bits, at least one
 abbrev pub byte_count : ℕ → ℕ
@@ -48,3 +48,7 @@ vlong_at (first ∷ rest) =
     else (if nat_lt first 136 then read_as negsuc (136 - first) (stored_at (136 - first) 112 rest)
     else (if nat_lt first 144 then read_as pos (144 - first) (stored_at (144 - first) 128 rest)
     else Ok (negsuc (255 - first), 1)))
+
+-- no number stands at the front of the bytes
+abbrev pub BeginsWithNone : List ℕ → Type 0
+BeginsWithNone bytes = (value : ℤ) (rest : List ℕ) → FitsSigned w64 value → bytes ≢ vlong value ++ rest

@@ -1,25 +1,11 @@
 //! Variable-length numbers, as Hadoop spells them.
-ghost use Rattle.std.specs.Prelude.{◌≡◌, ◌≤◌, ◌<◌, ◌++◌, ◌+◌, ◌^◌, ℕ, ℤ, List, length, drop, Ok, IfOk, OnOk, OnErr, FitsSigned};
+ghost use Rattle.std.specs.Prelude.{◌≡◌, ◌≤◌, ◌<◌, ◌++◌, ◌+◌, ◌^◌, ℕ, ℤ, List, length, drop, Ok, Err, IfOk, OnOk, OnErr, FitsSigned};
+ghost use Rattle.hb_wire.specs.declared.fault.WireError.TheVariants.{Short, Overlong};
 ghost use Rattle.std.specs.Int.{w64};
-ghost use Rattle.hb_wire.specs.Vlong.{byte_count, counted, stored_at, vlong, vlong_at};
+ghost use Rattle.hb_wire.specs.Vlong.{byte_count, counted, stored_at, vlong, vlong_at, BeginsWithNone};
 
-use crate::{Blob, NoMemory};
+use crate::{Blob, NoMemory, WireError};
 use byteorder::{BigEndian, ByteOrder};
-use thiserror::Error;
-
-/// Why a number or a field could not be read.
-#[derive(Clone, Copy, Debug, PartialEq, Eq, Error)]
-pub enum WireError {
-    /// At least so many bytes are missing.
-    #[error("{0} bytes are missing at least")]
-    Short(usize),
-    /// The number has a shorter spelling, or is beyond its limit.
-    #[error("a number is spelled too long")]
-    Overlong,
-    /// No memory was left.
-    #[error("no memory was left")]
-    NoMemory,
-}
 
 /// How many bytes hold the number, at least one.
 fn byte_count(number: u64) -> usize
@@ -93,6 +79,11 @@ pub fn get_vlong(bytes: &[u8], at: usize) -> Result<(i64, usize), WireError>
     // What is spelled so is read.
     ensures only { (value : ℤ) (rest : List ℕ) → FitsSigned w64 value → drop at bytes.now ≡ vlong value ++ rest
         → result ≡ Ok (value, length (vlong value)) }
+    // With fewer bytes behind these than are missing there is no number.
+    ensures short { (missing : ℕ) (more : List ℕ) → result ≡ Err (Short missing) → length more < missing
+        → BeginsWithNone (drop at bytes.now ++ more) }
+    // What is overlong begins no number, whatever follows.
+    ensures overlong { (more : List ℕ) → result ≡ Err Overlong → BeginsWithNone (drop at bytes.now ++ more) }
 {
     vlong_at(&bytes[at..])
 }
