@@ -1,4 +1,5 @@
-use Rattle.std.proofs.Common.{◌≡◌, ℕ, List, [], ◌∷◌, inl, inr, Option, Some, None, IfSome, option_copied, false, nat_eq, length, is_gt, true≢false, refl, ap, sym, subst, ◌∙◌, Bor}
+use Rattle.std.proofs.Common.{◌≡◌, ℕ, List, [], ◌∷◌, inl, inr, Option, Some, None, IfSome, option_copied, true, false, nat_eq, length, is_gt, true≢false, refl, ap, sym, subst, ◌∙◌, Bor, ◌<◌, arith}
+use Rattle.std.proofs.lemmas.Bool.Decides.{nat_tests}
 use Rattle.std.proofs.lemmas.Cmp.{nat_list_cmp_total, tied_itself}
 use Rattle.hb_grammar.specs.Grammar.{Same}
 use Rattle.hb_grammar.specs.Marked.{Avoids}
@@ -25,6 +26,11 @@ spelled_bound spells (Some b) spelled bytes e = let same : b.now ≡ bytes = cc 
 pub FromBound-nil : (spells : List ℕ → Type 0) (bound : List ℕ) → nat_eq (length bound) 0 ≡ false → FromBound spells (Some bound) [] → ⊥
 FromBound-nil spells [] some either = absurd (cc some)
 FromBound-nil spells (first ∷ bound) some either = elim either as (λ _. ⊥) [ inl e ↦ cc e | inr both ↦ both.1 refl ]
+
+-- and one that is used up is the string of no bytes
+pub FromBound-all : (spells : List ℕ → Type 0) (bound : List ℕ) → nat_eq (length bound) 0 ≡ true → FromBound spells (Some bound) []
+FromBound-all spells [] none = inl refl
+FromBound-all spells (first ∷ bound) none = let some : 0 < length (first ∷ bound) = omega arith in absurd (grind (arith, nat_tests))
 
 -- a bound that is a string of the grammar is one of those that are not below it
 pub Same-FromBound : (spells : List ℕ → Type 0) (bound : Option (List ℕ)) → ((bytes : List ℕ) → bound ≡ Some bytes → spells bytes) →

@@ -2,7 +2,7 @@ use Rattle.std.proofs.Common.{◌≡◌, ℕ, ◌+◌, ◌*◌, ◌-◌, rules, 
 use Rattle.std.proofs.lemmas.Bool.{eqb-true}
 use Rattle.hb_grammar.specs.declared.class.Class.{Class}
 use Rattle.hb_grammar.specs.Class.{has, is_digit, AllIn}
-use Rattle.hb_grammar.specs.Number.{DigitsAfter, IsNumeral}
+use Rattle.hb_grammar.proofs.Digits.{DigitsAfter, AreDigits}
 use Rattle.hb_grammar.specs.Run.{IsRun, IsExactly}
 use Rattle.hb_grammar.specs.Joined.{Joined}
 use Rattle.hb_grammar.specs.Marked.{Marked, Avoids}
@@ -80,7 +80,7 @@ Lacks-DigitsAfter mark max value outside (digit ∷ digits) after =
     (eqb_apart is_digit digit mark after.1 outside _ refl, Lacks-DigitsAfter mark max (value * 10 + (digit - 48)) outside digits after.2)
 
 -- so do numerals
-pub Free-IsNumeral : (positive : Bool) (max mark : ℕ) → is_digit mark ≡ false → Free (IsNumeral positive max) mark
-Free-IsNumeral positive max mark outside [] numeral = absurd numeral
-Free-IsNumeral positive max mark outside (digit ∷ digits) numeral =
+pub Free-AreDigits : (positive : Bool) (max mark : ℕ) → is_digit mark ≡ false → Free (AreDigits positive max) mark
+Free-AreDigits positive max mark outside [] numeral = absurd numeral
+Free-AreDigits positive max mark outside (digit ∷ digits) numeral =
     (eqb_apart is_digit digit mark numeral.0 outside _ refl, Lacks-DigitsAfter mark max (digit - 48) outside digits numeral.2)

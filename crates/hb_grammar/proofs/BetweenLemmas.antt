@@ -59,6 +59,15 @@ Shifts-more max value front span shifts within =
       within = within;
     }
 
+-- where the two with their zeros reach the lower number, the value can
+pub Reaches-Shifts : (low max value front span : ℕ) → Shifts max value front span → 0 < value → low < front + span → Reaches low max value
+Reaches-Shifts low max value front span shifts some above =
+    let f = shifts.front_is in
+    let s = shifts.span_is in
+    let within = shifts.within in
+    let next = tens-next value shifts.count in
+    record { count = shifts.count; lone = λ e. absurd (omega arith); below = omega arith; above = omega arith }
+
 -- where no zero more fits, nothing else reaches further
 pub Reaches-full : (low max value front span : ℕ) → Shifts max value front span → max < front * 10 → front + span ≤ low → Reaches low max value → ⊥
 Reaches-full low max value front span shifts full below reaches =

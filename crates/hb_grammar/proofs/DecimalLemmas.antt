@@ -3,8 +3,8 @@ use Rattle.std.specs.Fmt.{decimal}
 use Rattle.std.proofs.lemmas.Fmt.{decimal_by_steps}
 use Rattle.std.proofs.lemmas.Bool.Decides.{nat_tests}
 use Rattle.hb_grammar.specs.Class.{is_digit}
-use Rattle.hb_grammar.specs.Number.{DigitsAfter, IsNumeral}
-use Rattle.hb_grammar.proofs.NumberLemmas.{value_after, IsNumeral-le}
+use Rattle.hb_grammar.proofs.Digits.{DigitsAfter, AreDigits}
+use Rattle.hb_grammar.proofs.NumberLemmas.{value_after, AreDigits-le}
 
 -- one digit more behind digits whose number is not 0
 DigitsAfter-push : (max value digit : ℕ) (digits : List ℕ) → DigitsAfter max value digits → 0 < value_after value digits → is_digit digit ≡ true →
@@ -20,7 +20,7 @@ value_after-push value digit (first ∷ digits) = value_after-push (value * 10 +
 
 -- the digits are a numeral of the number, up to the number itself
 record Writes (number : ℕ) (digits : List ℕ) : Type 0 where
-  numeral : (positive : Bool) → (positive ≡ true → 0 < number) → IsNumeral positive number digits
+  numeral : (positive : Bool) → (positive ≡ true → 0 < number) → AreDigits positive number digits
   value : value_after 0 digits ≡ number
 
 -- one digit
@@ -50,11 +50,11 @@ Writes-push number (first ∷ digits) large writes =
     }
 
 -- a number that is not above a limit is written as a numeral up to it
-pub IsNumeral-decimal : (positive : Bool) (max number : ℕ) → (positive ≡ true → 0 < number) → number ≤ max → number < 2 ^ 64 →
-    IsNumeral positive max (decimal number)
-IsNumeral-decimal positive max number some within small =
+pub AreDigits-decimal : (positive : Bool) (max number : ℕ) → (positive ≡ true → 0 < number) → number ≤ max → number < 2 ^ 64 →
+    AreDigits positive max (decimal number)
+AreDigits-decimal positive max number some within small =
     let writes = decimal_by_steps Writes Writes-one Writes-push number small in
-    IsNumeral-le positive number max (decimal number) within (writes.numeral positive some)
+    AreDigits-le positive number max (decimal number) within (writes.numeral positive some)
 
 -- a number is what its decimal stands for
 pub value_after-decimal : (number : ℕ) → number < 2 ^ 64 → value_after 0 (decimal number) ≡ number

@@ -1,3 +1,4 @@
+pub mod Digits
 pub mod GrammarLemmas
 pub mod SameLemmas
 pub mod JoinedLemmas
@@ -14,4 +15,6 @@ pub mod MarkedTextLemmas
 pub mod RowsLemmas
 pub mod AtLeastLemmas
 pub mod BetweenLemmas
-pub mod NumeralBetweenLemmas
+pub mod NumeralLemmas
+pub mod TestLemmas
+pub mod LowerHexLemmas

@@ -5,7 +5,7 @@ use Rattle.std.proofs.lemmas.List.{drop_more, drop_all}
 use Rattle.std.proofs.lemmas.Str.Parse.{IsNumeralModel, numerals_by_fold}
 use Rattle.std.proofs.lemmas.Bool.Decides.{nat_tests}
 use Rattle.hb_grammar.specs.Class.{is_digit}
-use Rattle.hb_grammar.specs.Number.{DigitsAfter, IsNumeral}
+use Rattle.hb_grammar.proofs.Digits.{DigitsAfter, AreDigits}
 
 -- the number that digits stand for, behind those of a number
 abbrev pub value_after : ℕ → List ℕ → ℕ
@@ -51,18 +51,18 @@ lone-zero max digit digits after e =
     let none = length-DigitsAfter max digits (subst (λ (n : ℕ). DigitsAfter max (n - 48) digits) e after) in omega arith
 
 -- a numeral's number is not above its limit
-pub value_after-IsNumeral : (positive : Bool) (max : ℕ) (bytes : List ℕ) → IsNumeral positive max bytes → value_after 0 bytes ≤ max
-value_after-IsNumeral positive max [] numeral = absurd numeral
-value_after-IsNumeral positive max (digit ∷ digits) numeral =
+pub value_after-AreDigits : (positive : Bool) (max : ℕ) (bytes : List ℕ) → AreDigits positive max bytes → value_after 0 bytes ≤ max
+value_after-AreDigits positive max [] numeral = absurd numeral
+value_after-AreDigits positive max (digit ∷ digits) numeral =
     let e : 0 * 10 + (digit - 48) ≡ digit - 48 = omega arith in
     subst (λ (n : ℕ). value_after n digits ≤ max) (sym e) (value_after-le max (digit - 48) digits numeral.2)
 
 -- a numeral is the decimal of its number
-pub decimal-value_after : (positive : Bool) (max : ℕ) (bytes : List ℕ) → max < 2 ^ 64 → IsNumeral positive max bytes → decimal (value_after 0 bytes) ≡ bytes
+pub decimal-value_after : (positive : Bool) (max : ℕ) (bytes : List ℕ) → max < 2 ^ 64 → AreDigits positive max bytes → decimal (value_after 0 bytes) ≡ bytes
 decimal-value_after positive max [] small numeral = absurd numeral
 decimal-value_after positive max (digit ∷ digits) small numeral =
     let all : AllDigits (digit ∷ digits) = (numeral.0, AllDigits-DigitsAfter max (digit - 48) digits numeral.2) in
-    let value : value_after 0 (digit ∷ digits) ≤ max = value_after-IsNumeral positive max (digit ∷ digits) numeral in
+    let value : value_after 0 (digit ∷ digits) ≤ max = value_after-AreDigits positive max (digit ∷ digits) numeral in
     decimal-digits_value digits_model (digit ∷ digits) all (omega arith) (lone-zero max digit digits numeral.2) (omega arith)
 
 -- the digits that are left behind a number make the whole number
@@ -91,9 +91,9 @@ Takes-get_or max value whole i bytes below leaves =
     }
 
 -- the first digit of a numeral is the first that a number takes
-pub Takes-IsNumeral : (max : ℕ) (bytes : List ℕ) → IsNumeral false max bytes → Takes max 0 (get_or bytes 0 0) (drop 1 bytes) (value_after 0 bytes)
-Takes-IsNumeral max [] numeral = absurd numeral
-Takes-IsNumeral max (digit ∷ digits) numeral =
+pub Takes-AreDigits : (max : ℕ) (bytes : List ℕ) → AreDigits false max bytes → Takes max 0 (get_or bytes 0 0) (drop 1 bytes) (value_after 0 bytes)
+Takes-AreDigits max [] numeral = absurd numeral
+Takes-AreDigits max (digit ∷ digits) numeral =
     let e : 0 * 10 + (digit - 48) ≡ digit - 48 = omega arith in
     record {
       in_class = numeral.0;
@@ -108,9 +108,9 @@ Leaves-drop_all max value whole i bytes past leaves =
     let none : Leaves max value [] whole = subst (λ (x : List ℕ). Leaves max value x whole) (drop_all i bytes past) leaves in none.same
 
 -- a numeral has a digit
-pub length-IsNumeral : (positive : Bool) (max : ℕ) (bytes : List ℕ) → IsNumeral positive max bytes → 0 < length bytes
-length-IsNumeral positive max [] numeral = absurd numeral
-length-IsNumeral positive max (digit ∷ digits) numeral = omega arith
+pub length-AreDigits : (positive : Bool) (max : ℕ) (bytes : List ℕ) → AreDigits positive max bytes → 0 < length bytes
+length-AreDigits positive max [] numeral = absurd numeral
+length-AreDigits positive max (digit ∷ digits) numeral = omega arith
 
 -- a higher limit for the digits behind
 DigitsAfter-le : (low high value : ℕ) (digits : List ℕ) → low ≤ high → DigitsAfter low value digits → DigitsAfter high value digits
@@ -119,11 +119,11 @@ DigitsAfter-le low high value (first ∷ digits) le after =
     (after.0, after.1, DigitsAfter-le low high (value * 10 + (first - 48)) digits le after.2)
 
 -- a higher limit
-pub IsNumeral-le : (positive : Bool) (low high : ℕ) (bytes : List ℕ) → low ≤ high → IsNumeral positive low bytes → IsNumeral positive high bytes
-IsNumeral-le positive low high [] le numeral = numeral
-IsNumeral-le positive low high (first ∷ digits) le numeral = (numeral.0, numeral.1, DigitsAfter-le low high (first - 48) digits le numeral.2)
+pub AreDigits-le : (positive : Bool) (low high : ℕ) (bytes : List ℕ) → low ≤ high → AreDigits positive low bytes → AreDigits positive high bytes
+AreDigits-le positive low high [] le numeral = numeral
+AreDigits-le positive low high (first ∷ digits) le numeral = (numeral.0, numeral.1, DigitsAfter-le low high (first - 48) digits le numeral.2)
 
 -- a number that is to be positive is one that need not be
-pub IsNumeral-positive : (positive : Bool) (max : ℕ) (bytes : List ℕ) → IsNumeral positive max bytes → IsNumeral false max bytes
-IsNumeral-positive positive max [] numeral = numeral
-IsNumeral-positive positive max (first ∷ digits) numeral = (numeral.0, λ e. absurd (cc e), numeral.2)
+pub AreDigits-positive : (positive : Bool) (max : ℕ) (bytes : List ℕ) → AreDigits positive max bytes → AreDigits false max bytes
+AreDigits-positive positive max [] numeral = numeral
+AreDigits-positive positive max (first ∷ digits) numeral = (numeral.0, λ e. absurd (cc e), numeral.2)

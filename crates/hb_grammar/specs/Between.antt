@@ -1,13 +1,5 @@
 use Rattle.std.specs.Prelude.{◌≡◌, ℕ, ◌<◌, ◌≤◌, ◌+◌, ◌*◌, ◌-◌, ◌^◌, List, [], ◌∷◌, true, Option, Some, None}
-use Rattle.std.specs.Fmt.{decimal}
 use Rattle.hb_grammar.specs.Class.{is_digit}
-
--- the decimal text of a number from low to max
-pub record IsNumeralBetween (low max : ℕ) (bytes : List ℕ) : Type 0 where
-  pub number : ℕ
-  pub least : low ≤ number
-  pub most : number ≤ max
-  pub text : bytes ≡ decimal number
 
 -- the digits behind a number's first ones, which stand for value: nothing stands behind a leading zero, and the
 -- number is from low to max; 48 is the digit 0

@@ -11,8 +11,7 @@ pub mod EitherLaws
 pub mod Separated
 pub mod SeparatedLaws
 pub mod TextLaws
-pub mod Number
-pub mod NumberLaws
+pub mod Numeral
 pub mod Front
 pub mod TextOf
 pub mod Rows

@@ -35,7 +35,7 @@ impl<'a, A: Grammar> AtLeast<'a, A> {
     /// A string of `inner` that is not below `bound`.
     pub fn new(inner: A, bound: Option<&'a [u8]>) -> AtLeast<'a, A>
         requires { IfSome bound (λ bytes. A.spells inner bytes.now) }
-        ensures { Same (FromBound (A.spells result.inner) (option_copied result.bound)) (NotBelow (A.spells inner) (option_copied bound.entry)) }
+        ensures { Same (⟦<AtLeast<'a, A> as Grammar>⟧.spells result) (NotBelow (A.spells inner) (option_copied bound.entry)) }
     {
         AtLeast { inner, bound }
     }

@@ -1,8 +1,9 @@
 //! Decimal numbers from one number to another.
 
-ghost use Rattle.std.specs.Prelude.{◌≡◌, ◌≤◌, ℕ, Some, IfSome, IfNone, true, false};
+ghost use Rattle.std.specs.Prelude.{◌≡◌, ◌≤◌, ℕ, Some, IfSome, IfNone, IsTrue, ◌↔◌};
 ghost use Rattle.hb_grammar.specs.Grammar.{Same, IsLive};
-ghost use Rattle.hb_grammar.specs.Between.{DigitsBetween, BetweenFrom, IsNumeralBetween, Reaches, IsOnTheWay};
+ghost use Rattle.hb_grammar.specs.Between.{DigitsBetween, BetweenFrom, Reaches, IsOnTheWay};
+ghost use Rattle.hb_grammar.specs.Numeral.{IsNumeral};
 
 use crate::class::is_digit;
 use crate::grammar::Grammar;
@@ -21,8 +22,7 @@ pub struct Between {
 
 /// Whether a number from `low` to `max` begins with the digits of a value.
 fn can_reach(value: u64, low: u64, max: u64) -> bool
-    ensures yes { result ≡ true → Reaches low max value }
-    ensures no { result ≡ false → Reaches low max value → ⊥ }
+    ensures { IsTrue result ↔ Reaches low max value }
 {
     if value > max {
         return false;
@@ -60,7 +60,7 @@ impl Between {
     /// A number of at least `low` and at most `max`.
     pub fn new(low: u64, max: u64) -> Between
         requires { low ≤ max }
-        ensures { Same (BetweenFrom result.low result.max result.value) (IsNumeralBetween low max) }
+        ensures { Same (⟦<Between as Grammar>⟧.spells result) (IsNumeral low max) }
     {
         Between {
             value: None,

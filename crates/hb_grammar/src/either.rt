@@ -1,6 +1,6 @@
 //! One grammar or another.
 
-ghost use Rattle.std.specs.Prelude.{◌≡◌, [], Some, None, true, false};
+ghost use Rattle.std.specs.Prelude.{◌≡◌, [], Some, None, IsTrue, ◌↔◌};
 ghost use Rattle.hb_grammar.specs.Grammar.{Follows, Same};
 ghost use Rattle.hb_grammar.specs.Either.{IfLeft, EitherOf};
 
@@ -31,7 +31,7 @@ impl<A: Grammar, B: Grammar> Either<A, B> {
     /// A string of `left`, or of `right`.
     #[tactic(auto, using(crate::proofs::SameLemmas::Same_refl))]
     pub fn new(left: A, right: B) -> Either<A, B>
-        ensures { Same (EitherOf (IfLeft A.spells result.left) (IfLeft B.spells result.right)) (EitherOf (A.spells left) (B.spells right)) }
+        ensures { Same (⟦<Either<A, B> as Grammar>⟧.spells result) (EitherOf (A.spells left) (B.spells right)) }
     {
         Either {
             left: Some(left),
@@ -52,8 +52,7 @@ fn step_left<A: Grammar>(grammar: Option<A>, byte: u8) -> Option<A>
 
 /// Whether something is left, and has the string of no bytes.
 fn is_whole_left<A: Grammar>(grammar: Option<A>) -> bool
-    ensures yes { result ≡ true → IfLeft A.spells grammar [] }
-    ensures no { result ≡ false → IfLeft A.spells grammar [] → ⊥ }
+    ensures { IsTrue result ↔ IfLeft A.spells grammar [] }
 {
     match grammar {
         None => false,

@@ -1,6 +1,6 @@
 //! What a grammar is, and whether bytes are in it.
 
-ghost use Rattle.std.specs.Prelude.{◌≡◌, ℕ, List, [], IfSome, IfNone, IfOk, IfErr, true, false};
+ghost use Rattle.std.specs.Prelude.{◌≡◌, ℕ, List, [], IfSome, IfNone, IfOk, IfErr, IsTrue, ◌↔◌};
 ghost use Rattle.hb_grammar.specs.Grammar.{IsFault, Follows, Refuses, IsLive};
 
 /// The length of the longest prefix of the input that some string of the grammar begins with.
@@ -20,8 +20,7 @@ pub trait Grammar: Copy {
 
     /// Whether the grammar has the string of no bytes.
     fn is_whole(self) -> bool
-        ensures yes { result ≡ true → spells self [] }
-        ensures no { result ≡ false → spells self [] → ⊥ };
+        ensures { IsTrue result ↔ spells self [] };
 }
 
 /// A grammar none of whose strings begins another.

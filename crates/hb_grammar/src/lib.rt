@@ -33,7 +33,7 @@ pub use exactly::Exactly;
 pub use front::{split_front, split_marked};
 pub use grammar::{Closed, Fault, Grammar, scan};
 pub use literal::Literal;
-pub use number::{Number, number_of};
+pub use number::number_of;
 pub use run::Run;
 pub use separated::Separated;
 pub use then::Then;

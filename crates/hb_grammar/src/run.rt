@@ -21,7 +21,7 @@ impl Run {
     #[tactic(auto, using(crate::proofs::SameLemmas::Same_refl))]
     pub fn new(class: Class, least: usize, most: usize) -> Run
         requires { least ≤ most }
-        ensures { Same (IsRun result.class result.least result.most) (IsRun class least most) }
+        ensures { Same (⟦<Run as Grammar>⟧.spells result) (IsRun class least most) }
     {
         Run { class, least, most }
     }

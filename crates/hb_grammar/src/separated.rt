@@ -35,7 +35,7 @@ impl<A: Grammar> Separated<A> {
     #[tactic(auto, using(crate::proofs::SameLemmas::Same_refl))]
     pub fn new(inner: A, mark: u8, more: usize) -> Separated<A>
         requires { Avoids (A.spells inner) mark }
-        ensures { Same (SeparatedFrom (A.spells result.current) (A.spells result.fresh) result.mark result.more) (SeparatedOf (A.spells inner) mark more) }
+        ensures { Same (⟦<Separated<A> as Grammar>⟧.spells result) (SeparatedOf (A.spells inner) mark more) }
     {
         Separated {
             current: inner,

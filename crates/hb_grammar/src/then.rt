@@ -17,7 +17,7 @@ impl<A: Closed, B: Grammar> Then<A, B> {
     /// A string of `first`, and behind it a string of `second`.
     #[tactic(auto, using(crate::proofs::SameLemmas::Same_refl))]
     pub fn new(first: A, second: B) -> Then<A, B>
-        ensures { Same (LeftOf A.spells result.first (B.spells result.second)) (Joined (A.spells first) (B.spells second)) }
+        ensures { Same (⟦<Then<A, B> as Grammar>⟧.spells result) (Joined (A.spells first) (B.spells second)) }
     {
         Then {
             first: Some(first),

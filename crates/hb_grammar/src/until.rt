@@ -31,7 +31,7 @@ impl<A: Grammar> Until<A> {
     #[tactic(auto, using(crate::proofs::SameLemmas::Same_refl))]
     pub fn new(inner: A, mark: u8) -> Until<A>
         requires { Avoids (A.spells inner) mark }
-        ensures { Same (UntilMark A.spells result.inner result.mark) (Marked (A.spells inner) mark) }
+        ensures { Same (⟦<Until<A> as Grammar>⟧.spells result) (Marked (A.spells inner) mark) }
     {
         Until {
             inner: Some(inner),

@@ -1,6 +1,7 @@
 use Rattle.std.proofs.Common.{arith, List, ℕ}
 use Rattle.hb_grammar.proofs.MarkedLemmas.{Avoids-Follows}
 use Rattle.hb_grammar.proofs.SeparatedLemmas.{Follows-SeparatedFrom_mark, Refuses-SeparatedFrom_mark, Refuses-SeparatedFrom_last, Follows-SeparatedFrom, Refuses-SeparatedFrom}
+use Rattle.hb_grammar.proofs.TestLemmas.{refused}
 use Rattle.hb_grammar.proofs.separated.SeparatedGrammar.step.Goals as goal
 
 pub returns-then-self-eq0-clause-stops : goal.returns-then-self-eq0-clause-stops
@@ -15,14 +16,14 @@ returns-then-not-is_whole-clause-stops g c =
     let row = c.args.self in
     let fresh : List ℕ → Type 0 = g.A.Grammar.spells row.fresh in
     Refuses-SeparatedFrom_mark (g.A.Grammar.spells row.current) fresh row.mark c.args.byte row.more
-    c.if-byte-self.true row.apart (c.is_whole.ensures.no c.if-not-is_whole.true)
+    c.if-byte-self.true row.apart (refused c.is_whole.ensures c.if-not-is_whole.true)
 
 pub returns-then-byte-self-clause-goes_on : goal.returns-then-byte-self-clause-goes_on
 returns-then-byte-self-clause-goes_on g c =
     let row = c.args.self in
     let fresh : List ℕ → Type 0 = g.A.Grammar.spells row.fresh in
     Follows-SeparatedFrom_mark (g.A.Grammar.spells row.current) fresh row.mark c.args.byte row.more
-    c.if-byte-self.true (omega arith) row.apart (c.is_whole.ensures.yes c.if-not-is_whole.false)
+    c.if-byte-self.true (omega arith) row.apart (c.is_whole.ensures.0 c.if-not-is_whole.false)
 
 pub invariant_of-result-in-Some : goal.invariant_of-result-in-Some
 invariant_of-result-in-Some g c = record {
