@@ -1,7 +1,6 @@
-use Rattle.std.proofs.Common.{ℕ, ◌≤◌, [], ◌∷◌, ◌++◌, refl, arith, false, codes, Option, Some, None, inl, inr}
+use Rattle.std.proofs.Common.{ℕ, ◌≤◌, [], ◌∷◌, ◌++◌, refl, arith, codes, Option, Some, None, inl, inr}
 use Rattle.std.specs.Prelude.{IfSome}
 use Rattle.std.specs.Fmt.{decimal}
-use Rattle.hb_grammar.proofs.DecimalLemmas.{IsNumeral-decimal}
 use Rattle.hb_file_names.specs.FileName.{IsSuffix, IsFileName}
 use Rattle.hb_file_names.specs.FileParts.{sixteen_digits, suffix_text, file_text, HasSeqInLimit}
 use Rattle.hb_file_names.proofs.DigitsLemmas.{IsExactly-sixteen_digits}
@@ -15,7 +14,7 @@ IsSuffix-suffix_text (Some n) within = inr (record {
   back = decimal n ++ 95 ∷ [];
   whole = refl;
   in_first = refl;
-  in_second = record { front = decimal n; whole = refl; in_inner = IsNumeral-decimal false 9_223_372_036_854_775_807 n (λ e. cc) within (omega arith) };
+  in_second = record { front = decimal n; whole = refl; in_inner = record { number = n; least = omega arith; most = within; text = refl } };
 })
 
 -- the text of parts is a file name

@@ -7,3 +7,4 @@ pub mod RegroupLemmas
 pub mod LinkLemmas
 pub mod MarkLemmas
 pub mod TextLemmas
+pub mod ToldLemmas

@@ -1,13 +1,13 @@
-use Rattle.std.proofs.Common.{◌≡◌, ℕ, ◌-◌, ◌+◌, ◌<◌, ◌≤◌, List, [], ◌∷◌, ◌++◌, length, take, drop, ap, ◌∙◌, sym, subst, arith, false, codes, inl, inr}
+use Rattle.std.proofs.Common.{◌≡◌, ℕ, ◌-◌, ◌+◌, ◌<◌, ◌≤◌, List, [], ◌∷◌, ◌++◌, length, take, drop, ap, ◌∙◌, sym, subst, arith, codes, inl, inr}
 use Rattle.std.proofs.Math.Seq.{take-append_seam}
 use Rattle.std.proofs.lemmas.List.{length-append}
-use Rattle.hb_grammar.specs.Number.{IsNumeral}
+use Rattle.hb_grammar.specs.Numeral.{IsNumeral}
 use Rattle.hb_file_names.specs.FileName.{IsSeqSuffix, IsSuffix}
 
 -- the digits within a suffix, with what stands round them
 pub record HasDigits (bytes : List ℕ) : Type 0 where
   pub long : 8 ≤ length bytes
-  pub numeral : IsNumeral false 9_223_372_036_854_775_807 (take (length bytes - 1 - 7) (drop 7 bytes))
+  pub numeral : IsNumeral 0 9_223_372_036_854_775_807 (take (length bytes - 1 - 7) (drop 7 bytes))
   pub text : codes "_SeqId_" ++ (take (length bytes - 1 - 7) (drop 7 bytes) ++ 95 ∷ []) ≡ bytes
 
 -- a suffix that is not empty has digits
@@ -26,7 +26,7 @@ HasDigits-IsSeqSuffix bytes suffix =
     ap (λ n. take n (drop 7 bytes)) count ∙ ap (take (length behind.front)) left ∙ take-append_seam behind.front (95 ∷ []) in
     record {
       long = omega arith;
-      numeral = subst (IsNumeral false 9_223_372_036_854_775_807) (sym digits) behind.in_inner;
+      numeral = subst (IsNumeral 0 9_223_372_036_854_775_807) (sym digits) behind.in_inner;
       text = ap (λ (x : List ℕ). word ++ (x ++ 95 ∷ [])) digits ∙ sym whole;
     }
 

@@ -1,14 +1,14 @@
-use Rattle.std.specs.Prelude.{◌≡◌, ℕ, List, [], false, codes}
+use Rattle.std.specs.Prelude.{◌≡◌, ℕ, List, [], codes}
 use Rattle.hb_grammar.specs.declared.class.Class.TheVariants.{LowerHex}
 use Rattle.hb_grammar.specs.Run.{IsExactly}
-use Rattle.hb_grammar.specs.Number.{IsNumeral}
+use Rattle.hb_grammar.specs.Numeral.{IsNumeral}
 use Rattle.hb_grammar.specs.Joined.{Joined}
 use Rattle.hb_grammar.specs.Marked.{Marked}
 use Rattle.hb_grammar.specs.Either.{EitherOf}
 
 -- _SeqId_, a decimal number up to 2 ^ 63 - 1, and _, whose code is 95
 abbrev pub IsSeqSuffix : List ℕ → Type 0
-IsSeqSuffix = Joined (λ bytes. bytes ≡ codes "_SeqId_") (Marked (IsNumeral false 9_223_372_036_854_775_807) 95)
+IsSeqSuffix = Joined (λ bytes. bytes ≡ codes "_SeqId_") (Marked (IsNumeral 0 9_223_372_036_854_775_807) 95)
 
 -- that, or nothing
 abbrev pub IsSuffix : List ℕ → Type 0

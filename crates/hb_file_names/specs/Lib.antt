@@ -5,3 +5,4 @@ pub mod LinkParts
 pub mod RefName
 pub mod BackRef
 pub mod HalfName
+pub mod NameLaws

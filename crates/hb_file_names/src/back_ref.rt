@@ -65,8 +65,8 @@ impl BackRef {
             Ok(()) => {
                 let (region, table) = split_mark(bytes, 32);
                 Ok(BackRef {
-                    region: Encoded::of(alloc, region)?,
-                    table: TableName::of(alloc, table)?,
+                    region: Encoded::copy_of(alloc, region)?,
+                    table: TableName::copy_of(alloc, table)?,
                 })
             }
             Err(fault) => Err(NameError::Bad(BadName(fault.0))),

@@ -4,24 +4,26 @@
 //! parts or the place where the input leaves the grammar, a `read` for the owned value, and a `write`.
 #![tactic(auto)]
 
-pub mod back_grammar;
+mod back_grammar;
 pub mod back_ref;
-pub mod digits;
+mod digits;
 pub mod file_grammar;
 pub mod file_name;
 pub mod file_parts;
-pub mod half_grammar;
+mod half_grammar;
+pub mod laws;
 pub mod link_grammar;
 pub mod link_name;
-pub mod mark;
+mod mark;
 pub mod ref_grammar;
 pub mod ref_name;
-pub mod suffix;
+mod suffix;
 #[cfg(test)]
 mod tests;
 
 pub use back_ref::{BackParts, BackRef};
 pub use file_name::FileName;
 pub use file_parts::FileParts;
+pub use laws::names_told;
 pub use link_name::{LinkName, LinkParts};
 pub use ref_name::{RefName, RefParts};

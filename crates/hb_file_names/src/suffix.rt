@@ -1,14 +1,15 @@
 //! The sequence number at the end of a file name.
 
-ghost use Rattle.std.specs.Prelude.{◌≡◌, ◌≤◌, ◌++◌, IfSome, OnOk};
+ghost use Rattle.std.specs.Prelude.{◌≡◌, ◌≤◌, ◌++◌, Some, IfSome, IfOk, OnOk, OnErr};
 ghost use Rattle.hb_grammar.specs.Grammar.{Same};
 ghost use Rattle.hb_file_names.specs.FileName.{IsSuffix};
 ghost use Rattle.hb_file_names.specs.FileParts.{suffix_text};
 
-use hb_grammar::{Either, End, Grammar, Literal, Number, Then, Until, number_of};
+use hb_grammar::{Between, Either, End, Grammar, Literal, Then, Until, number_of};
 use hb_wire::{Blob, NoMemory};
+use std::alloc::Global;
 
-type SuffixParts = Either<End, Then<Literal, Until<Number>>>;
+type SuffixParts = Either<End, Then<Literal, Until<Between>>>;
 
 /// Nothing, or `_SeqId_`, a decimal number up to 2 ^ 63 - 1, and `_`.
 #[derive(Clone, Copy)]
@@ -19,7 +20,7 @@ pub struct SuffixGrammar {
 fn suffix_parts() -> SuffixParts
     ensures { Same (⟦<SuffixParts as Grammar>⟧.spells result) IsSuffix }
 {
-    let number = Until::new(Number::new(false, 9_223_372_036_854_775_807), b'_');
+    let number = Until::new(Between::new(0, 9_223_372_036_854_775_807), b'_');
     let seq = Then::new(Literal { text: b"_SeqId_" }, number);
     Either::new(End, seq)
 }
@@ -62,15 +63,27 @@ pub fn seq_of(suffix: &[u8]) -> Option<u64>
     Some(number_of(&suffix[7..suffix.len() - 1]))
 }
 
-/// Adds the suffix of a sequence number.
-pub fn add_suffix(text: &mut Blob, seq: Option<u64>) -> Result<(), NoMemory>
-    ensures { OnOk result (text.new ≡ text.old ++ suffix_text seq) }
+/// The text of the suffix of a sequence number.
+fn text_of_seq(alloc: Global, seq: u64) -> Result<Blob, NoMemory>
+    ensures { IfOk result (λ text. text ≡ suffix_text (Some seq)) }
 {
-    if let Some(seq) = seq {
-        text.add(b"_SeqId_")?;
-        let number = seq.to_string(text.allocator())?;
-        text.add(number.as_bytes())?;
-        text.add(b"_")?;
+    let number = seq.to_string(alloc)?;
+    let mut text = Blob::copy_of(alloc, b"_SeqId_")?;
+    text.add(number.as_bytes())?;
+    text.add(b"_")?;
+    Ok(text)
+}
+
+/// Adds the suffix of a sequence number, or of none. Without memory for it nothing changes.
+pub fn add_suffix(text: &mut Blob, seq: Option<u64>) -> Result<(), NoMemory>
+    ensures ok { OnOk result (text.new ≡ text.old ++ suffix_text seq) }
+    ensures err { OnErr result (text.new ≡ text.old) }
+{
+    match seq {
+        None => Ok(()),
+        Some(seq) => {
+            let suffix = text_of_seq(text.allocator(), seq)?;
+            text.add(suffix.as_slice())
+        }
     }
-    Ok(())
 }

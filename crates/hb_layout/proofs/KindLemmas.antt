@@ -1,4 +1,4 @@
-use Rattle.std.proofs.Common.{◌≡◌, ℕ, ◌+◌, ◌-◌, ◌*◌, ◌≤◌, ◌<◌, ◌^◌, List, [], ◌∷◌, ◌++◌, length, Bool, true, false, inl, inr, sym, ap, ◌∙◌, subst, arith}
+use Rattle.std.proofs.Common.{◌≡◌, ℕ, ◌+◌, ◌-◌, ◌*◌, ◌≤◌, ◌<◌, ◌^◌, List, [], ◌∷◌, ◌++◌, length, Bool, true, false, inl, inr, refl, sym, ap, ◌∙◌, subst, arith}
 use Rattle.std.specs.Fmt.{decimal}
 use Rattle.std.proofs.lemmas.Bool.Decides.{nat_tests}
 use Rattle.std.proofs.lemmas.Fmt.{length-decimal-le}
@@ -7,12 +7,14 @@ use Rattle.hb_grammar.specs.declared.class.Class.{Class}
 use Rattle.hb_grammar.specs.declared.class.Class.TheVariants.{Digit, LowerHex, Name, NameStart, FamilyStart, Component}
 use Rattle.hb_grammar.specs.Class.{has, is_digit, AllIn}
 use Rattle.hb_grammar.specs.Run.{IsRun, IsExactly}
-use Rattle.hb_grammar.specs.Number.{DigitsAfter, IsNumeral}
+use Rattle.hb_grammar.specs.Numeral.{IsNumeral}
+use Rattle.hb_grammar.proofs.Digits.{DigitsAfter, AreDigits}
 use Rattle.hb_grammar.specs.Joined.{Joined}
 use Rattle.hb_grammar.specs.Marked.{Marked}
 use Rattle.hb_grammar.specs.Either.{EitherOf}
-use Rattle.hb_grammar.proofs.NumberLemmas.{value_after, value_after-IsNumeral, decimal-value_after}
-use Rattle.hb_names.specs.Component.{AllDots, IsComponent}
+use Rattle.hb_grammar.proofs.NumeralLemmas.{AreDigits-IsNumeral}
+use Rattle.hb_names.specs.Component.{IsComponent}
+use Rattle.hb_names.specs.ComponentGrammar.{AllDots}
 
 -- strings of the grammar are no longer than so many bytes, all of them of a component
 pub record IsShort (spells : List ℕ → Type 0) (most : ℕ) : Type 0 where
@@ -59,10 +61,10 @@ AllIn-DigitsAfter max value [] after = tt
 AllIn-DigitsAfter max value (digit ∷ digits) after =
     (Component-is_digit digit after.1, AllIn-DigitsAfter max (value * 10 + (digit - 48)) digits after.2)
 
--- and numerals
-AllIn-IsNumeral : (positive : Bool) (max : ℕ) (bytes : List ℕ) → IsNumeral positive max bytes → AllIn Component bytes
-AllIn-IsNumeral positive max [] numeral = absurd numeral
-AllIn-IsNumeral positive max (digit ∷ digits) numeral = (Component-is_digit digit numeral.0, AllIn-DigitsAfter max (digit - 48) digits numeral.2)
+-- so are all digits of a number
+AllIn-AreDigits : (positive : Bool) (max : ℕ) (bytes : List ℕ) → AreDigits positive max bytes → AllIn Component bytes
+AllIn-AreDigits positive max [] digits = absurd digits
+AllIn-AreDigits positive max (digit ∷ digits) all = (Component-is_digit digit all.0, AllIn-DigitsAfter max (digit - 48) digits all.2)
 
 -- a run is no longer than its bound
 pub IsShort-IsRun : (class : Class) (low high : ℕ) → IsShort (IsRun class low high) high
@@ -81,15 +83,13 @@ IsShort-text text each = record {
 }
 
 -- a number up to 2 ^ 63 - 1 has at most 19 digits
-pub IsShort-IsNumeral : (positive : Bool) → IsShort (IsNumeral positive 9_223_372_036_854_775_807) 19
-IsShort-IsNumeral positive = record {
+pub IsShort-IsNumeral : (low : ℕ) → IsShort (IsNumeral low 9_223_372_036_854_775_807) 19
+IsShort-IsNumeral low = record {
   short = λ bytes numeral.
-      let small : 9_223_372_036_854_775_807 < 2 ^ 64 = omega arith in
-      let number : ℕ = value_after 0 bytes in
-      let within : number ≤ 9_223_372_036_854_775_807 = value_after-IsNumeral positive 9_223_372_036_854_775_807 bytes numeral in
-      let same : decimal number ≡ bytes = decimal-value_after positive 9_223_372_036_854_775_807 bytes small numeral in
-      subst (λ (x : List ℕ). length x ≤ 19) same (length-decimal-le 19 number (omega arith) (omega arith) (omega arith));
-  each = AllIn-IsNumeral positive 9_223_372_036_854_775_807;
+      let within = numeral.most in
+      subst (λ (x : List ℕ). length x ≤ 19) (sym numeral.text) (length-decimal-le 19 numeral.number (omega arith) (omega arith) (omega arith));
+  each = λ bytes numeral.
+      AllIn-AreDigits false 9_223_372_036_854_775_807 bytes (AreDigits-IsNumeral low 9_223_372_036_854_775_807 bytes (omega arith) numeral);
 }
 
 -- two parts are no longer than both bounds
@@ -149,10 +149,14 @@ HasMore-EitherOf left right a b bytes either dots = elim either as (λ _. ⊥) [
 not_dot : (byte : ℕ) → is_digit byte ≡ true → byte ≡ 46 → ⊥
 not_dot byte e same = grind (arith, nat_tests)
 
--- a numeral is not dots alone
-pub HasMore-IsNumeral : (positive : Bool) (max : ℕ) → HasMore (IsNumeral positive max)
-HasMore-IsNumeral positive max [] numeral dots = numeral
-HasMore-IsNumeral positive max (digit ∷ digits) numeral dots = not_dot digit numeral.0 dots.0
+-- digits are not dots alone
+HasMore-AreDigits : (positive : Bool) (max : ℕ) (bytes : List ℕ) → AreDigits positive max bytes → AllDots bytes → ⊥
+HasMore-AreDigits positive max [] digits dots = digits
+HasMore-AreDigits positive max (digit ∷ digits) all dots = not_dot digit all.0 dots.0
+
+-- so a numeral is not
+pub HasMore-IsNumeral : (low max : ℕ) → max < 2 ^ 64 → HasMore (IsNumeral low max)
+HasMore-IsNumeral low max small bytes numeral = HasMore-AreDigits false max bytes (AreDigits-IsNumeral low max bytes small numeral)
 
 -- what is not dots alone has a byte
 some_byte : (bytes : List ℕ) → (AllDots bytes → ⊥) → 1 ≤ length bytes
@@ -167,5 +171,6 @@ IsComponent-IsShort spells most le short more bytes spelled =
       least = some_byte bytes (more bytes spelled);
       most = omega arith;
       each = short.each bytes spelled;
-      not_dots = λ dots. absurd (more bytes spelled dots);
+      not_dot = λ e. more bytes spelled (subst AllDots (sym e) (refl, tt));
+      not_two_dots = λ e. more bytes spelled (subst AllDots (sym e) (refl, (refl, tt)));
     }

@@ -1,4 +1,4 @@
-use Rattle.std.proofs.Common.{◌≡◌, ℕ, ◌≤◌, ◌⊎◌, not, Bool, true, false, List, [], ◌∷◌, ◌++◌, length, codes, refl, sym, ap, ◌∙◌, arith, inl, inr}
+use Rattle.std.proofs.Common.{◌≡◌, ℕ, ◌≤◌, ◌⊎◌, not, Bool, true, false, List, [], ◌∷◌, ◌++◌, length, codes, refl, sym, ap, ◌∙◌, subst, arith, inl, inr}
 use Rattle.std.specs.Cmp.{nat_eq_equiv}
 use Rattle.std.specs.Cmp.Lexicographic.{lists_equiv, same_text}
 use Rattle.std.specs.List.{join_with_byte, AllByRecursion}
@@ -17,9 +17,10 @@ use Rattle.hb_file_names.specs.LinkName.{IsLinkName}
 use Rattle.hb_file_names.specs.RefName.{IsRefName}
 use Rattle.hb_file_names.specs.FileParts.{sixteen_digits}
 use Rattle.hb_file_names.proofs.DigitsLemmas.{sixteen_digits-injective}
+use Rattle.hb_file_names.proofs.ToldLemmas.{file_alone}
 use Rattle.hb_layout.specs.declared.base.Base.{Base}
-use Rattle.hb_layout.specs.Spot.{Spot, Epoch, Tmp, RegionSet, StoreList, Live, Archived, BackRefTo, Info, Manifest, WorkInfo, WorkManifest, Staged, base_path, path, place_text}
-use Rattle.hb_layout.specs.Lawful.{IsLawful}
+use Rattle.hb_layout.specs.Spot.{Spot, Epoch, Tmp, RegionSet, StoreList, Pointer, Live, Pointing, Archived, BackRefTo, Info, Manifest, WorkInfo, WorkManifest, Staged, base_path, path, place_text}
+use Rattle.hb_layout.specs.Lawful.{IsPointer, IsSpelled}
 use Rattle.hb_layout.proofs.JoinLemmas.{join_with_byte-injective}
 use Rattle.hb_layout.proofs.NameLemmas.{IsComponent-IsTableName, IsComponent-IsFamilyName, IsComponent-IsEncoded, IsComponent-sixteen_digits, IsComponent-decimal, IsComponent-IsFileName, IsComponent-IsLinkName, IsComponent-IsRefName, IsComponent-IsBackRef, IsComponent-links}
 use Rattle.hb_layout.proofs.PathLemmas.{same_name, same_path, filelist, is_apart, same_spot, same_path-path, path_equal}
@@ -55,15 +56,12 @@ words = record {
   staging = IsComponent-is_component (codes "staging") refl;
 }
 
--- the name of what stands in a family's directory is a component
-IsComponent-entry : (bytes : List ℕ) → IsFileName bytes ⊎ (IsLinkName bytes ⊎ IsRefName bytes) → IsComponent bytes
-IsComponent-entry bytes entry = elim entry as (λ _. IsComponent bytes) [
-  | inl file ↦ IsComponent-IsFileName bytes file
-  | inr other ↦ elim other as (λ _. IsComponent bytes) [ inl link ↦ IsComponent-IsLinkName bytes link | inr half ↦ IsComponent-IsRefName bytes half ]
-]
+-- the name of a link or a reference is a component
+IsComponent-pointer : (bytes : List ℕ) → IsLinkName bytes ⊎ IsRefName bytes → IsComponent bytes
+IsComponent-pointer bytes name = elim name as (λ _. IsComponent bytes) [ inl link ↦ IsComponent-IsLinkName bytes link | inr half ↦ IsComponent-IsRefName bytes half ]
 
 -- each component of a lawful spot is one
-pub All-path : (spot : Spot) → IsLawful spot → AllByRecursion IsComponent (path spot)
+pub All-path : (spot : Spot) → IsSpelled spot → AllByRecursion IsComponent (path spot)
 All-path (Epoch number) h = (words.epoch, (IsComponent-sixteen_digits number, tt))
 All-path (Tmp name) h = (words.tmp, (IsComponent-IsFileName name h, tt))
 All-path (RegionSet table number) h =
@@ -78,7 +76,20 @@ All-path (Live base) h = (
       IsComponent-IsTableName base.table h.0.table,
       (
         IsComponent-IsEncoded base.region h.0.region,
-        (IsComponent-IsFamilyName base.family h.0.family, (IsComponent-entry base.name h.1, tt)),
+        (IsComponent-IsFamilyName base.family h.0.family, (IsComponent-IsFileName base.name h.1, tt)),
+      ),
+    ),
+  ),
+)
+All-path (Pointing pointer) h = (
+  words.root,
+  (
+    words.namespace,
+    (
+      IsComponent-IsTableName pointer.table h.table,
+      (
+        IsComponent-IsEncoded pointer.region h.region,
+        (IsComponent-IsFamilyName pointer.family h.family, (IsComponent-pointer pointer.name h.name, tt)),
       ),
     ),
   ),
@@ -133,6 +144,7 @@ deep (Tmp name) = record { least = omega arith; most = omega arith }
 deep (RegionSet table number) = record { least = omega arith; most = omega arith }
 deep (StoreList table region number) = record { least = omega arith; most = omega arith }
 deep (Live base) = record { least = omega arith; most = omega arith }
+deep (Pointing pointer) = record { least = omega arith; most = omega arith }
 deep (Archived base) = record { least = omega arith; most = omega arith }
 deep (BackRefTo base text) = record { least = omega arith; most = omega arith }
 deep (Info name) = record { least = omega arith; most = omega arith }
@@ -142,7 +154,7 @@ deep (WorkManifest name) = record { least = omega arith; most = omega arith }
 deep (Staged folder family name) = record { least = omega arith; most = omega arith }
 
 -- a lawful spot has a place
-pub IsPlace-place_text : (spot : Spot) → IsLawful spot → IsPlace (place_text spot)
+pub IsPlace-place_text : (spot : Spot) → IsSpelled spot → IsPlace (place_text spot)
 IsPlace-place_text spot h = let d = deep spot in IsPlace-join_with_byte (path spot) d.least d.most (All-path spot h)
 
 -- components have no slash
@@ -174,10 +186,24 @@ family_apart family named true e =
     let whole : filelist ≡ named.front ++ named.back = sym same ∙ named.whole in
     absurd (no_dot named.front named.back (codes "filelist") whole named.in_first)
 
--- so no family's directory is that of the store lists
-is_apart-IsLawful : (spot : Spot) → IsLawful spot → is_apart spot ≡ true
-is_apart-IsLawful (Live base) h = family_apart base.family h.0.family (same_name base.family filelist) refl
-is_apart-IsLawful _ h = refl
+-- a link or a reference, seen as a file of its name
+abbrev as_base : Pointer → Base
+as_base pointer = record { table = pointer.table; region = pointer.region; family = pointer.family; name = pointer.name }
+
+abbrev as_file : Spot → Spot
+as_file (Pointing pointer) = Live (as_base pointer)
+as_file spot = spot
+
+-- stands in the same place
+path-as_file : (spot : Spot) → path (as_file spot) ≡ path spot
+path-as_file (Pointing pointer) = refl
+path-as_file _ = refl
+
+-- no family's directory is that of the store lists
+is_apart-as_file : (spot : Spot) → IsSpelled spot → is_apart (as_file spot) ≡ true
+is_apart-as_file (Live base) h = family_apart base.family h.0.family (same_name base.family filelist) refl
+is_apart-as_file (Pointing pointer) h = family_apart pointer.family h.family (same_name pointer.family filelist) refl
+is_apart-as_file _ h = refl
 
 -- a base is its four names
 base_equal : (b c : Base) → base_path b ≡ base_path c → b ≡ c
@@ -191,7 +217,7 @@ base_equal b c e =
     made t t' r r' f f' n n' a b c d = cc
 
 -- lawful spots that pass the test are equal
-spot_equal : (p q : Spot) → IsLawful p → IsLawful q → same_spot p q ≡ true → p ≡ q
+spot_equal : (p q : Spot) → IsSpelled p → IsSpelled q → same_spot (as_file p) (as_file q) ≡ true → p ≡ q
 spot_equal (Epoch m) (Epoch n) h k e =
     let names : sixteen_digits m ∷ [] ≡ sixteen_digits n ∷ [] = path_equal (sixteen_digits m ∷ []) (sixteen_digits n ∷ []) e in
     let digits : sixteen_digits m ≡ sixteen_digits n = cc in
@@ -206,6 +232,15 @@ spot_equal (StoreList t r m) (StoreList u q n) h k e =
     let digits : decimal m ≡ decimal n = cc in
     let same : m ≡ n = decimal_injective m n (omega (arith, h.2.1)) (omega (arith, k.2.1)) digits in cc
 spot_equal (Live b) (Live c) h k e = ap Live (base_equal b c (path_equal (base_path b) (base_path c) e))
+spot_equal (Pointing p) (Pointing q) h k e =
+    let same : as_base p ≡ as_base q = base_equal (as_base p) (as_base q) (path_equal (base_path (as_base p)) (base_path (as_base q)) e) in
+    ap Pointing (ap (λ (b : Base). let x : Pointer = record { table = b.table; region = b.region; family = b.family; name = b.name } in x) same)
+spot_equal (Live b) (Pointing q) h k e =
+    let same : b ≡ as_base q = base_equal b (as_base q) (path_equal (base_path b) (base_path (as_base q)) e) in
+    absurd (file_alone b.name h.1 (subst (λ (name : List ℕ). IsLinkName name ⊎ IsRefName name) (sym (ap (λ (x : Base). x.name) same)) k.name))
+spot_equal (Pointing p) (Live c) h k e =
+    let same : as_base p ≡ c = base_equal (as_base p) c (path_equal (base_path (as_base p)) (base_path c) e) in
+    absurd (file_alone c.name k.1 (subst (λ (name : List ℕ). IsLinkName name ⊎ IsRefName name) (ap (λ (x : Base). x.name) same) h.name))
 spot_equal (Archived b) (Archived c) h k e = ap Archived (base_equal b c (path_equal (base_path b) (base_path c) e))
 spot_equal (BackRefTo b m) (BackRefTo c n) h k e =
     let names : base_path b ++ m ∷ [] ≡ base_path c ++ n ∷ [] = path_equal (base_path b ++ m ∷ []) (base_path c ++ n ∷ []) e in
@@ -220,8 +255,10 @@ spot_equal (Staged d f c) (Staged x g y) h k e =
 spot_equal _ _ h k e = absurd (cc)
 
 -- lawful spots with the same place are the same
-pub place_text-injective : (p q : Spot) → IsLawful p → IsLawful q → place_text p ≡ place_text q → p ≡ q
+pub place_text-injective : (p q : Spot) → IsSpelled p → IsSpelled q → place_text p ≡ place_text q → p ≡ q
 place_text-injective p q h k e =
     let paths : path p ≡ path q = (let dp = deep p in let dq = deep q in join_equal (path p) (path q) dp.least dq.least (All-path p h) (All-path q k) e) in
-    let alike : same_path (path p) (path q) ≡ true = ap (same_path (path p)) (sym paths) ∙ (lists_equiv (lists_equiv nat_eq_equiv)).refl (path p) in
-    spot_equal p q h k (sym (same_path-path p q (is_apart-IsLawful p h) (is_apart-IsLawful q k)) ∙ alike)
+    let files : path (as_file p) ≡ path (as_file q) = path-as_file p ∙ paths ∙ sym (path-as_file q) in
+    let alike : same_path (path (as_file p)) (path (as_file q)) ≡ true =
+    ap (same_path (path (as_file p))) (sym files) ∙ (lists_equiv (lists_equiv nat_eq_equiv)).refl (path (as_file p)) in
+    spot_equal p q h k (sym (same_path-path (as_file p) (as_file q) (is_apart-as_file p h) (is_apart-as_file q k)) ∙ alike)

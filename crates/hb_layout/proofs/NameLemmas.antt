@@ -1,13 +1,12 @@
-use Rattle.std.proofs.Common.{◌≡◌, ℕ, ◌≤◌, ◌<◌, List, [], ◌++◌, refl, false, arith, codes}
+use Rattle.std.proofs.Common.{◌≡◌, ℕ, ◌≤◌, ◌<◌, List, [], ◌++◌, length, refl, ap, arith, codes}
 use Rattle.std.specs.Fmt.{decimal}
 use Rattle.std.proofs.lemmas.List.{length-append}
 use Rattle.hb_grammar.specs.declared.class.Class.TheVariants.{LowerHex, Name, NameStart, FamilyStart}
 use Rattle.hb_grammar.specs.Class.{has}
 use Rattle.hb_grammar.specs.Run.{IsRun, IsExactly}
-use Rattle.hb_grammar.specs.Number.{IsNumeral}
+use Rattle.hb_grammar.specs.Numeral.{IsNumeral}
 use Rattle.hb_grammar.specs.Joined.{Joined}
 use Rattle.hb_grammar.specs.Marked.{Marked}
-use Rattle.hb_grammar.proofs.DecimalLemmas.{IsNumeral-decimal}
 use Rattle.hb_names.specs.Component.{IsComponent}
 use Rattle.hb_names.specs.TableName.{IsTableName}
 use Rattle.hb_names.specs.FamilyName.{IsFamilyName}
@@ -57,19 +56,19 @@ IsComponent-sixteen_digits number = IsComponent-IsShort (IsExactly LowerHex 16) 
 
 -- and the number of a list
 pub IsComponent-decimal : (number : ℕ) → number ≤ 9_223_372_036_854_775_807 → IsComponent (decimal number)
-IsComponent-decimal number within = IsComponent-IsShort (IsNumeral false 9_223_372_036_854_775_807) 19 (omega arith)
-    (IsShort-IsNumeral false) (HasMore-IsNumeral false 9_223_372_036_854_775_807) (decimal number)
-    (IsNumeral-decimal false 9_223_372_036_854_775_807 number (λ e. cc) within (omega arith))
+IsComponent-decimal number within = IsComponent-IsShort (IsNumeral 0 9_223_372_036_854_775_807) 19 (omega arith)
+    (IsShort-IsNumeral 0) (HasMore-IsNumeral 0 9_223_372_036_854_775_807 (omega arith)) (decimal number)
+    (record { number = number; least = omega arith; most = within; text = refl })
 
 -- a suffix has at most 27 bytes
 IsShort-IsSuffix : IsShort IsSuffix 27
 unfolding has
 IsShort-IsSuffix =
     let word : List ℕ = codes "_SeqId_" in
-    let marked = IsShort-Marked (IsNumeral false 9_223_372_036_854_775_807) 95 19 refl (IsShort-IsNumeral false) in
+    let marked = IsShort-Marked (IsNumeral 0 9_223_372_036_854_775_807) 95 19 refl (IsShort-IsNumeral 0) in
     let text = IsShort-text word (refl, (refl, (refl, (refl, (refl, (refl, (refl, tt))))))) in
     IsShort-EitherOf (λ bytes. bytes ≡ []) IsSeqSuffix 0 27 27 (omega arith) (omega arith) (IsShort-text [] tt)
-    (IsShort-Joined (λ bytes. bytes ≡ word) (Marked (IsNumeral false 9_223_372_036_854_775_807) 95) 7 20 text marked)
+    (IsShort-Joined (λ bytes. bytes ≡ word) (Marked (IsNumeral 0 9_223_372_036_854_775_807) 95) 7 20 text marked)
 
 -- a file name has at most 59
 IsShort-IsFileName : IsShort IsFileName 59
@@ -130,5 +129,6 @@ IsComponent-links bytes file =
       least = omega arith;
       most = omega arith;
       each = AllIn-append word bytes (refl, (refl, (refl, (refl, (refl, (refl, (refl, tt))))))) (IsShort-IsFileName.each bytes file);
-      not_dots = λ dots. let second : 108 ≡ 46 = dots.1.0 in absurd (omega arith);
+      not_dot = λ e. let same = ap length e in omega arith;
+      not_two_dots = λ e. let same = ap length e in omega arith;
     }

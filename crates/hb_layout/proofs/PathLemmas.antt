@@ -4,7 +4,7 @@ use Rattle.std.specs.Cmp.{nat_eq_equiv}
 use Rattle.std.specs.Cmp.Lexicographic.{pointwise, lists_equiv, same_text, unequal}
 use Rattle.std.specs.Fmt.{decimal}
 use Rattle.hb_file_names.specs.FileParts.{sixteen_digits}
-use Rattle.hb_layout.specs.Spot.{Spot, Epoch, Tmp, RegionSet, StoreList, Live, Archived, BackRefTo, Info, Manifest, WorkInfo, WorkManifest, Staged, base_path, path}
+use Rattle.hb_layout.specs.Spot.{Spot, Epoch, Tmp, RegionSet, StoreList, Live, Pointing, Archived, BackRefTo, Info, Manifest, WorkInfo, WorkManifest, Staged, base_path, path}
 
 -- whether two names are the same, as a test that computes on literals
 abbrev pub same_name : List ℕ → List ℕ → Bool
@@ -18,9 +18,10 @@ same_path p q = pointwise same_name p q
 abbrev pub filelist : List ℕ
 filelist = codes ".filelist"
 
--- whether a spot's family is not that directory
+-- whether a spot's family is not that directory; a link or a reference is seen as a file of its name instead
 abbrev pub is_apart : Spot → Bool
 is_apart (Live base) = not (same_name base.family filelist)
+is_apart (Pointing pointer) = false
 is_apart _ = true
 
 -- whether two spots have the same names
@@ -61,6 +62,8 @@ other_length p q d = unequal same_name p q (λ e. other_number (length p) (lengt
 
 -- the paths of two spots are alike exactly where the spots are
 pub same_path-path : (p q : Spot) → is_apart p ≡ true → is_apart q ≡ true → same_path (path p) (path q) ≡ same_spot p q
+same_path-path (Pointing p) q h k = absurd (cc)
+same_path-path p (Pointing q) h k = absurd (cc)
 same_path-path (Epoch m) (Epoch n) h k = refl
 same_path-path (Tmp m) (Tmp n) h k = refl
 same_path-path (RegionSet t m) (RegionSet u n) h k = refl

@@ -4,7 +4,14 @@ use Rattle.std.specs.List.{join_with_byte}
 use Rattle.hb_file_names.specs.FileParts.{sixteen_digits}
 use Rattle.hb_layout.specs.declared.base.Base.{Base}
 
--- a file of the store by what it is; a base's name may here also be that of a link or of a reference
+-- a link or a reference, by where it stands: a table, a region, a family, and its name
+pub record Pointer : Type 0 where
+  pub table : List ℕ
+  pub region : List ℕ
+  pub family : List ℕ
+  pub name : List ℕ
+
+-- a file of the store by what it is
 pub data Spot : Type 0 where
   -- the empty file of an opening
   Epoch : ℕ → Spot
@@ -14,8 +21,10 @@ pub data Spot : Type 0 where
   RegionSet : List ℕ → ℕ → Spot
   -- a table's region's store list of this number
   StoreList : List ℕ → List ℕ → ℕ → Spot
-  -- a file, link or reference in the directory of its family
+  -- a file in the directory of its family
   Live : Base → Spot
+  -- a link or a reference there
+  Pointing : Pointer → Spot
   -- a file in the archive
   Archived : Base → Spot
   -- the back reference to a file, by its text
@@ -40,6 +49,8 @@ path (Tmp name) = codes ".tmp" ∷ name ∷ []
 path (RegionSet table number) = codes "data" ∷ codes "default" ∷ table ∷ codes ".regions" ∷ decimal number ∷ []
 path (StoreList table region number) = codes "data" ∷ codes "default" ∷ table ∷ region ∷ codes ".filelist" ∷ decimal number ∷ []
 path (Live base) = codes "data" ∷ codes "default" ∷ base_path base
+path (Pointing pointer) =
+    codes "data" ∷ codes "default" ∷ pointer.table ∷ pointer.region ∷ pointer.family ∷ pointer.name ∷ []
 path (Archived base) = codes "archive" ∷ codes "data" ∷ codes "default" ∷ base_path base
 path (BackRefTo base text) =
     codes "archive" ∷ codes "data" ∷ codes "default" ∷ base.table ∷ base.region ∷ base.family ∷ (codes ".links-" ++ base.name) ∷ text ∷ []

@@ -3,7 +3,7 @@
 ghost use Rattle.std.specs.Prelude.{◌≡◌, ◌++◌, ◌∷◌, IfOk, OnOk};
 ghost use Rattle.std.specs.List.{join_with_byte};
 ghost use Rattle.hb_layout.specs.Spot.{Live, Archived, base_path, place_text};
-ghost use Rattle.hb_layout.specs.Lawful.{IsLawful};
+ghost use Rattle.hb_layout.specs.Lawful.{IsSpelled};
 
 use hb_file_names::FileName;
 use hb_names::{Encoded, FamilyName, Place, TableName};
@@ -36,7 +36,7 @@ impl Copied for Base {
 pub fn live(alloc: Global, base: &Base) -> Result<Place, NoMemory>
     ensures { IfOk result (λ place. place ≡ place_text (Live base.now)) }
 {
-    Ok(Place::of(text_below(alloc, b"data/default/", base)?))
+    Ok(Place::from_blob(text_below(alloc, b"data/default/", base)?))
 }
 
 /// The place of a base's file once no region uses it:
@@ -44,12 +44,12 @@ pub fn live(alloc: Global, base: &Base) -> Result<Place, NoMemory>
 pub fn archived(alloc: Global, base: &Base) -> Result<Place, NoMemory>
     ensures { IfOk result (λ place. place ≡ place_text (Archived base.now)) }
 {
-    Ok(Place::of(text_below(alloc, b"archive/data/default/", base)?))
+    Ok(Place::from_blob(text_below(alloc, b"archive/data/default/", base)?))
 }
 
 /// The components of a base below a directory.
 fn text_below(alloc: Global, root: &[u8], base: &Base) -> Result<Blob, NoMemory>
-    ensures lawful { OnOk result (IsLawful (Archived base.now)) }
+    ensures spelled { OnOk result (IsSpelled (Archived base.now)) }
     ensures text { IfOk result (λ text. text ≡ root.now ++ join_with_byte 47 (base_path base.now)) }
 {
     let mut text = Blob::copy_of(alloc, root)?;
@@ -59,7 +59,7 @@ fn text_below(alloc: Global, root: &[u8], base: &Base) -> Result<Blob, NoMemory>
 
 /// Adds the components of a base, with `/` between each two.
 fn add_base(text: &mut Blob, base: &Base) -> Result<(), NoMemory>
-    ensures lawful { OnOk result (IsLawful (Archived base.now)) }
+    ensures spelled { OnOk result (IsSpelled (Archived base.now)) }
     ensures text { OnOk result (text.new ≡ text.old ++ (base.now.table ++ 47 ∷ (base.now.region ++ 47 ∷ (base.now.family ++ 47 ∷ base.now.name)))) }
 {
     text.add(base.table.as_slice())?;

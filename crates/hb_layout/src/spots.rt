@@ -2,12 +2,14 @@
 
 ghost use Rattle.std.specs.Prelude.{◌≡◌};
 ghost use Rattle.hb_layout.specs.Spot.{Spot, place_text};
-ghost use Rattle.hb_layout.specs.Lawful.{IsLawful};
+ghost use Rattle.hb_layout.specs.Lawful.{IsSpelled, IsLawful};
 ghost use Rattle.hb_names.specs.Place.{IsPlace};
 
-/// A spot with lawful names has a place, and two of them with the same place are the same spot. So the
-/// places of a base are one to one, and a live one is never an archived one.
+/// A spot whose names are in their grammars has a place, and two of them with the same place are the same
+/// spot. So the places of a base are one to one, a live one is never an archived one, and none is that of
+/// a link or a reference.
 pub fn spots_apart()
-    ensures places { (p : Spot) → IsLawful p → IsPlace (place_text p) }
-    ensures apart { (p q : Spot) → IsLawful p → IsLawful q → place_text p ≡ place_text q → p ≡ q }
+    ensures places { (p : Spot) → IsSpelled p → IsPlace (place_text p) }
+    ensures apart { (p q : Spot) → IsSpelled p → IsSpelled q → place_text p ≡ place_text q → p ≡ q }
+    ensures lawful { (p q : Spot) → IsLawful p → IsLawful q → place_text p ≡ place_text q → p ≡ q }
 {}

@@ -1,3 +1,3 @@
 pub mod ComponentLemmas
 pub mod PlaceLemmas
-pub mod LowerHexLemmas
+pub mod FreeLemmas

@@ -1,12 +1,12 @@
-use Rattle.std.proofs.Common.{◌≡◌, ℕ, ◌≤◌, suc, zero, List, [], ◌∷◌, ◌++◌, length, Bool, true, false, not, ◌&&◌, ◌||◌, nat_le, nat_eq, refl, sym, arith, inl, inr}
+use Rattle.std.proofs.Common.{◌≡◌, ℕ, ◌≤◌, suc, zero, List, [], ◌∷◌, ◌++◌, length, Bool, true, false, not, ◌&&◌, ◌||◌, nat_le, nat_eq, ◌+◌, refl, sym, ap, ◌∙◌, subst, true≢false, arith, inl, inr}
 use Rattle.std.proofs.lemmas.List.{append_assoc}
 use Rattle.std.specs.List.{list_all, join_with_byte, AllByRecursion}
 use Rattle.std.proofs.lemmas.Bool.Decides.{nat_tests}
 use Rattle.hb_grammar.specs.declared.class.Class.TheVariants.{Component}
 use Rattle.hb_grammar.specs.Class.{has, AllIn}
 use Rattle.hb_grammar.specs.Separated.{SeparatedOf}
-use Rattle.hb_names.specs.Component.{AllDots, IsComponent}
-use Rattle.hb_names.specs.Place.{IsPlace}
+use Rattle.hb_names.specs.Component.{IsComponent}
+use Rattle.hb_names.specs.Place.{IsPlace, AreComponents}
 
 -- whether the bytes are dots alone
 abbrev pub all_dots : List ℕ → Bool
@@ -30,12 +30,6 @@ and_second : (a b : Bool) → (a && b) ≡ true → b ≡ true
 and_second true b e = e
 and_second false b e = cc
 
--- what is dots alone passes the test
-all_dots-AllDots : (bytes : List ℕ) → AllDots bytes → all_dots bytes ≡ true
-all_dots-AllDots [] all = refl
-all_dots-AllDots (byte ∷ bytes) all =
-    let first : byte ≡ 46 = all.0 in let rest = all_dots-AllDots bytes all.1 in grind (arith, nat_tests)
-
 -- bytes that all pass the class's test are in the class
 AllIn-list_all : (bytes : List ℕ) → list_all (has Component) bytes ≡ true → AllIn Component bytes
 AllIn-list_all [] e = tt
@@ -57,7 +51,8 @@ IsComponent-is_component bytes e =
       least = grind (arith, nat_tests);
       most = grind (arith, nat_tests);
       each = AllIn-list_all bytes (and_second (nat_le 1 (length bytes) && nat_le (length bytes) 255) (list_all (has Component) bytes) e1);
-      not_dots = λ all. let dots = all_dots-AllDots bytes all in grind (arith, nat_tests);
+      not_dot = λ same. true≢false (sym (subst (λ x. (nat_le 3 (length x) || not (all_dots x)) ≡ true) same e5));
+      not_two_dots = λ same. true≢false (sym (subst (λ x. (nat_le 3 (length x) || not (all_dots x)) ≡ true) same e5));
     }
 
 -- a place of fewer components is one of more
@@ -92,6 +87,42 @@ pub IsPlace-join_with_byte : (components : List (List ℕ)) → 1 ≤ length com
 IsPlace-join_with_byte [] least most each = absurd (omega arith)
 IsPlace-join_with_byte (first ∷ rest) least most each =
     SeparatedOf-join_with_byte IsComponent 47 15 first rest (omega arith) each.0 each.1
+
+-- a row of strings of a grammar, by the strings
+record HasParts (inner : List ℕ → Type 0) (mark more : ℕ) (bytes : List ℕ) : Type 0 where
+  part : List ℕ
+  parts : List (List ℕ)
+  first : inner part
+  rest : AllByRecursion inner parts
+  short : length parts ≤ more
+  whole : bytes ≡ join_with_byte mark (part ∷ parts)
+
+-- each row has some
+parts_of : (inner : List ℕ → Type 0) (mark more : ℕ) (bytes : List ℕ) → SeparatedOf inner mark more bytes → HasParts inner mark more bytes
+parts_of inner mark zero bytes spelled = record { part = bytes; parts = []; first = spelled; rest = tt; short = omega arith; whole = refl }
+parts_of inner mark (suc more) bytes spelled = elim spelled as (λ _. HasParts inner mark (suc more) bytes) [
+  | inl one ↦ record { part = bytes; parts = []; first = one; rest = tt; short = omega arith; whole = refl }
+  | inr pair ↦ (
+      let behind = parts_of inner mark more pair.back pair.in_second in
+      let short = behind.short in
+      let marked = pair.in_first in
+      record {
+        part = marked.front;
+        parts = behind.part ∷ behind.parts;
+        first = marked.in_inner;
+        rest = (behind.first, behind.rest);
+        short = omega arith;
+        whole = pair.whole ∙ ap (λ (x : List ℕ). x ++ pair.back) marked.whole ∙ ap (λ (x : List ℕ). (marked.front ++ mark ∷ []) ++ x) behind.whole ∙ append_assoc marked.front (mark ∷ []) (join_with_byte mark (behind.part ∷ behind.parts));
+      }
+      )
+]
+
+-- a place is its components, joined by slashes
+pub components_of : (place : List ℕ) → IsPlace place → (components : List (List ℕ)) × AreComponents components × (place ≡ join_with_byte 47 components)
+components_of place is =
+    let found = parts_of IsComponent 47 15 place is in
+    let short = found.short in
+    (found.part ∷ found.parts, record { least = omega arith; most = omega arith; each = (found.first, found.rest) }, found.whole)
 
 -- components that pass the test are a place, joined by slashes: for known components the test is proved by refl
 pub IsPlace-is_path : (components : List (List ℕ)) → is_path components ≡ true → IsPlace (join_with_byte 47 components)

@@ -2,7 +2,7 @@ use Rattle.std.proofs.Common.{ℕ, ◌≤◌, [], ◌∷◌, Bool, refl, arith, 
 use Rattle.std.proofs.lemmas.Bool.{cases_lt}
 use Rattle.hb_grammar.specs.Grammar.{IsLive}
 use Rattle.hb_grammar.specs.Class.{has}
-use Rattle.hb_names.specs.Component.{ComponentAfter}
+use Rattle.hb_names.specs.ComponentGrammar.{ComponentAfter}
 
 -- whatever was read of a component can be completed: by the digit 0, or by nothing at full length
 pub IsLive-ComponentAfter : (read : ℕ) (dots : Bool) → read ≤ 255 → IsLive (ComponentAfter read dots)

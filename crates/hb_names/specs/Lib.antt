@@ -1,5 +1,6 @@
 pub mod NameError
 pub mod Component
+pub mod ComponentGrammar
 pub mod ComponentLaws
 pub mod Place
 pub mod Qualifier

@@ -2,7 +2,8 @@
 
 ghost use Rattle.std.specs.Prelude.{◌≡◌, ◌≤◌, true};
 ghost use Rattle.hb_grammar.specs.Grammar.{Same};
-ghost use Rattle.hb_names.specs.Component.{ComponentAfter, IsComponent};
+ghost use Rattle.hb_names.specs.Component.{IsComponent};
+ghost use Rattle.hb_names.specs.ComponentGrammar.{ComponentAfter};
 
 use hb_grammar::{Class, Grammar};
 
@@ -17,7 +18,7 @@ pub struct ComponentGrammar {
 impl ComponentGrammar {
     /// The grammar of a component, before its first byte.
     pub fn new() -> ComponentGrammar
-        ensures { Same (ComponentAfter result.read result.dots) IsComponent }
+        ensures { Same (⟦<ComponentGrammar as Grammar>⟧.spells result) IsComponent }
     {
         ComponentGrammar {
             read: 0,

@@ -78,7 +78,7 @@ impl Encoded {
     }
 
     /// The name of bytes that are known to be one, with a copy of them.
-    pub fn of(alloc: Global, bytes: &[u8]) -> Result<Encoded, NoMemory>
+    pub fn copy_of(alloc: Global, bytes: &[u8]) -> Result<Encoded, NoMemory>
         requires { IsEncoded bytes.now }
         ensures { IfOk result (λ name. name ≡ bytes.now) }
     {

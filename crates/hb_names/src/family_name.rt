@@ -58,7 +58,7 @@ impl FamilyName {
     }
 
     /// The name of bytes that are known to be one, with a copy of them.
-    pub fn of(alloc: Global, bytes: &[u8]) -> Result<FamilyName, NoMemory>
+    pub fn copy_of(alloc: Global, bytes: &[u8]) -> Result<FamilyName, NoMemory>
         requires { IsFamilyName bytes.now }
         ensures { IfOk result (λ name. name ≡ bytes.now) }
     {

@@ -1,9 +1,10 @@
 //! Places of files.
 
-ghost use Rattle.std.specs.Prelude.{◌≡◌, ◌++◌, IfOk, IfErr, OnOk, OnErr};
+ghost use Rattle.std.specs.Prelude.{◌≡◌, ◌++◌, ℕ, List, IfOk, IfErr, OnOk, OnErr};
+ghost use Rattle.std.specs.List.{join_with_byte};
 ghost use Rattle.hb_grammar.specs.Grammar.{Same, IsFault};
 ghost use Rattle.hb_names.specs.NameError.{IsRefusal};
-ghost use Rattle.hb_names.specs.Place.{IsPlace};
+ghost use Rattle.hb_names.specs.Place.{IsPlace, AreComponents};
 
 use crate::component::ComponentGrammar;
 use crate::error::{BadName, NameError};
@@ -66,7 +67,7 @@ impl Place {
     }
 
     /// The place of bytes that are known to be one. It takes no memory.
-    pub fn of(text: Blob) -> Place
+    pub fn from_blob(text: Blob) -> Place
         requires { IsPlace text }
         ensures { result ≡ text }
     {
@@ -106,6 +107,13 @@ impl Place {
     }
 }
 
+/// A place is 1 to 16 components joined by `/`: such components have a place, and each place has such
+/// components.
+pub fn places_are_components()
+    ensures joined { (components : List (List ℕ)) → AreComponents components → IsPlace (join_with_byte 47 components) }
+    ensures split { (place : List ℕ) → IsPlace place → (components : List (List ℕ)) × AreComponents components × (place ≡ join_with_byte 47 components) }
+{}
+
 impl Copied for Place {
     fn copy(&self) -> Result<Place, NoMemory> {
         Ok(Place {
@@ -117,7 +125,6 @@ impl Copied for Place {
 #[cfg(test)]
 mod tests {
     use super::*;
-    use std::test::Fail;
 
     #[test]
     fn the_place_of_a_fault(rt: HostRuntime) {
@@ -145,17 +152,5 @@ mod tests {
             };
             assert_eq!(rt; found, fault, "at {} bytes", text.len());
         }
-    }
-
-    #[test]
-    fn a_place_is_read_copied_and_written(rt: HostRuntime) -> Result<(), Fail> {
-        let place = Place::read(rt.alloc(), b"a/b")?;
-        let copy = place.copy()?;
-        assert!(rt; place == copy);
-        assert!(rt; place < Place::read(rt.alloc(), b"a0b")?);
-        let mut out = Blob::copy_of(rt.alloc(), b">")?;
-        copy.write(&mut out)?;
-        assert_eq!(rt; out.as_slice(), b">a/b".as_slice());
-        Ok(())
     }
 }

@@ -14,7 +14,7 @@ use std::alloc::Global;
 
 /// The name of a region: its table, the row at which it starts (no bytes where it has no lower bound),
 /// and its region id.
-#[derive(Debug, Drop)]
+#[derive(Debug, Drop, PartialEq, Eq)]
 pub struct RegionName {
     pub table: TableName,
     pub start: Blob,

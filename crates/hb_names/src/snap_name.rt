@@ -85,7 +85,6 @@ impl Copied for SnapName {
 #[cfg(test)]
 mod tests {
     use super::*;
-    use std::test::Fail;
 
     #[test]
     fn the_place_of_a_fault(rt: HostRuntime) {
@@ -108,17 +107,5 @@ mod tests {
             };
             assert_eq!(rt; found, fault, "at {} bytes", text.len());
         }
-    }
-
-    #[test]
-    fn a_name_is_read_copied_and_written(rt: HostRuntime) -> Result<(), Fail> {
-        let name = SnapName::read(rt.alloc(), b"s1")?;
-        let copy = name.copy()?;
-        assert!(rt; name == copy);
-        assert!(rt; name < SnapName::read(rt.alloc(), b"s2")?);
-        let mut out = Blob::copy_of(rt.alloc(), b">")?;
-        copy.write(&mut out)?;
-        assert_eq!(rt; out.as_slice(), b">s1".as_slice());
-        Ok(())
     }
 }

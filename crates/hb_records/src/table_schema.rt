@@ -5,7 +5,7 @@ use hb_wire::{Copied, Items, NoMemory};
 
 /// A table: its name, and its families, each with the number of versions of a cell that a read shows.
 /// Source: HBase `TableDescriptor`, `ColumnFamilyDescriptor` (`VERSIONS`).
-#[derive(Debug, Drop)]
+#[derive(Debug, Drop, PartialEq, Eq)]
 pub struct TableSchema {
     pub table: TableName,
     pub families: Items<(FamilyName, u32)>,

@@ -7,8 +7,8 @@ use Rattle.std.proofs.lemmas.Bool.{cases_order}
 use Rattle.std.proofs.lemmas.Bool.Decides.{nat_tests}
 use Rattle.std.proofs.lemmas.Cmp.{alike_right}
 use Rattle.hex.specs.Hex.{IsBytes}
-use Rattle.hb_row_text.specs.NextRow.{before_next, next_row, IsAtLeast, IsNext}
-use Rattle.hb_row_text.proofs.DigitLemmas.{IsBytes-cons}
+use Rattle.hb_row_text.specs.NextRow.{before_next, next_row, IsFrom, IsNext}
+use Rattle.hb_grammar.proofs.LowerHexLemmas.{IsBytes-cons}
 use Rattle.hb_row_text.proofs.OrderLemmas.{nat_cmp-same, nat_cmp-below, nat_cmp-above}
 
 -- no row is below the empty one
@@ -25,23 +25,23 @@ at_least_byte x y ys le = elim (cases_order x y) [
 ]
 
 -- the same byte before the next row and before the other
-at_least_same : (x y : ℕ) (ys : List ℕ) (next : Option (List ℕ)) → x ≡ y → IsAtLeast next ys → IsAtLeast (before_next x next) (y ∷ ys)
+at_least_same : (x y : ℕ) (ys : List ℕ) (next : Option (List ℕ)) → x ≡ y → IsFrom next ys → IsFrom (before_next x next) (y ∷ ys)
 at_least_same x y ys None same from = absurd from
 at_least_same x y ys (Some n) same from = rw (nat_cmp-same x y same) from
 
 -- the next byte alone, where the other row begins with a higher one
-at_least_higher : (x y : ℕ) (ys : List ℕ) → x < y → (below : Bool) → below ≡ true → IsAtLeast (cond below (Some ((x + 1) ∷ [])) None) (y ∷ ys)
+at_least_higher : (x y : ℕ) (ys : List ℕ) → x < y → (below : Bool) → below ≡ true → IsFrom (cond below (Some ((x + 1) ∷ [])) None) (y ∷ ys)
 at_least_higher x y ys lt true e = at_least_byte (x + 1) y ys (omega arith)
 at_least_higher x y ys lt false e = cc
 
 -- a row that begins with a higher byte is not below the next
-at_least_below : (x y : ℕ) (ys : List ℕ) (next : Option (List ℕ)) → x < y → y < 256 → IsAtLeast (before_next x next) (y ∷ ys)
+at_least_below : (x y : ℕ) (ys : List ℕ) (next : Option (List ℕ)) → x < y → y < 256 → IsFrom (before_next x next) (y ∷ ys)
 at_least_below x y ys None below small = at_least_higher x y ys below (nat_lt x 255) (grind (arith, nat_tests))
 at_least_below x y ys (Some n) below small = rw (nat_cmp-below x y below) refl
 
 -- a row above another is not below the next, by their first bytes
-at_least_heads : (x y : ℕ) (xs ys : List ℕ) (next : Option (List ℕ)) → y < 256 → (slice_cmp nat_cmp xs ys ≡ Less → IsAtLeast next ys) →
-    ordering_then (nat_cmp x y) (slice_cmp nat_cmp xs ys) ≡ Less → IsAtLeast (before_next x next) (y ∷ ys)
+at_least_heads : (x y : ℕ) (xs ys : List ℕ) (next : Option (List ℕ)) → y < 256 → (slice_cmp nat_cmp xs ys ≡ Less → IsFrom next ys) →
+    ordering_then (nat_cmp x y) (slice_cmp nat_cmp xs ys) ≡ Less → IsFrom (before_next x next) (y ∷ ys)
 at_least_heads x y xs ys next small rest e = elim (cases_order x y) [
   | inl same ↦ at_least_same x y ys next same (rest (rw (nat_cmp-same x y same) at e))
   | inr (inl below) ↦ at_least_below x y ys next below small
@@ -49,17 +49,17 @@ at_least_heads x y xs ys next small rest e = elim (cases_order x y) [
 ]
 
 -- a row above one is not below the next
-IsAtLeast-next_row : (room : ℕ) (a b : List ℕ) → IsBytes b → length b ≤ room → slice_cmp nat_cmp a b ≡ Less → IsAtLeast (next_row room a) b
+IsFrom-next_row : (room : ℕ) (a b : List ℕ) → IsBytes b → length b ≤ room → slice_cmp nat_cmp a b ≡ Less → IsFrom (next_row room a) b
 unfolding next_row
-IsAtLeast-next_row zero [] [] small limit e = absurd (cc e)
-IsAtLeast-next_row zero (x ∷ xs) [] small limit e = absurd (cc e)
-IsAtLeast-next_row zero [] (y ∷ ys) small limit e = absurd (omega arith)
-IsAtLeast-next_row zero (x ∷ xs) (y ∷ ys) small limit e = absurd (omega arith)
-IsAtLeast-next_row (suc room) [] [] small limit e = absurd (cc e)
-IsAtLeast-next_row (suc room) [] (y ∷ ys) small limit e = at_least_byte 0 y ys (omega arith)
-IsAtLeast-next_row (suc room) (x ∷ xs) [] small limit e = absurd (cc e)
-IsAtLeast-next_row (suc room) (x ∷ xs) (y ∷ ys) small limit e =
-    at_least_heads x y xs ys (next_row room xs) (small 0) (IsAtLeast-next_row room xs ys (λ i. small (suc i)) (omega arith)) e
+IsFrom-next_row zero [] [] small limit e = absurd (cc e)
+IsFrom-next_row zero (x ∷ xs) [] small limit e = absurd (cc e)
+IsFrom-next_row zero [] (y ∷ ys) small limit e = absurd (omega arith)
+IsFrom-next_row zero (x ∷ xs) (y ∷ ys) small limit e = absurd (omega arith)
+IsFrom-next_row (suc room) [] [] small limit e = absurd (cc e)
+IsFrom-next_row (suc room) [] (y ∷ ys) small limit e = at_least_byte 0 y ys (omega arith)
+IsFrom-next_row (suc room) (x ∷ xs) [] small limit e = absurd (cc e)
+IsFrom-next_row (suc room) (x ∷ xs) (y ∷ ys) small limit e =
+    at_least_heads x y xs ys (next_row room xs) (small 0) (IsFrom-next_row room xs ys (λ i. small (suc i)) (omega arith)) e
 
 -- what holds of each way in which a next row is made: a 0 more, a byte before another, and a byte that goes up by one
 record IsKept (P : List ℕ → ℕ → List ℕ → Type 0) : Type 0 where
@@ -122,14 +122,14 @@ above_upto a b c Greater above e le = absurd (cc le)
 
 -- a row that is not below the next is above the row
 above_IsAtLeast : (row other : List ℕ) (next : Option (List ℕ)) → ((n : List ℕ) → next ≡ Some n → slice_cmp nat_cmp row n ≡ Less) →
-    IsAtLeast next other → slice_cmp nat_cmp row other ≡ Less
+    IsFrom next other → slice_cmp nat_cmp row other ≡ Less
 above_IsAtLeast row other None above from = absurd from
 above_IsAtLeast row other (Some n) above from = above_upto row n other (slice_cmp nat_cmp n other) (above n refl) refl from
 
 -- the next row is the least above the row
 pub IsNext-next_row : (room : ℕ) (row : List ℕ) → IsNext room row (next_row room row)
 IsNext-next_row room row = record {
-  forth = IsAtLeast-next_row room row;
+  forth = IsFrom-next_row room row;
   back = λ other from. above_IsAtLeast row other (next_row room row) (next_row-above room row) from;
   limit = next_row-limit room row;
   small = next_row-small room row;

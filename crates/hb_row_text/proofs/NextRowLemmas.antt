@@ -1,5 +1,7 @@
 use Rattle.std.proofs.Common.{◌≡◌, ℕ, zero, suc, ◌+◌, ◌-◌, ◌<◌, ◌≤◌, List, [], ◌∷◌, ◌++◌, length, take, get_or, Some, None, refl, sym, ap, ◌∙◌, subst, arith}
+use Rattle.std.specs.Prelude.{IsTrue, ◌↔◌, ◌≢◌, nat_lt}
 use Rattle.std.proofs.lemmas.Bool.Decides.{nat_tests}
+use Rattle.hb_grammar.proofs.TestLemmas.{decided}
 use Rattle.std.proofs.lemmas.List.{take_more, length-take-le}
 use Rattle.hb_row_text.specs.NextRow.{before_next, next_row}
 
@@ -61,3 +63,19 @@ next_row-up row kept some within small =
     let suc_at : kept ≡ suc (kept - 1) = omega arith in
     let Q : ℕ → Type 0 = λ n. next_row n (take (kept - 1) row ++ last ∷ []) ≡ Some (take (kept - 1) row ++ (last + 1) ∷ []) in
     rw whole (subst Q (sym suc_at) (next_row-higher (kept - 1) (take (kept - 1) row) last (length-take-le (kept - 1) row (omega arith)) small))
+
+-- a row that is not the longest has a next one
+pub has_next-shorter : (row : List ℕ) → length row < 32767 → next_row 32767 row ≢ None
+has_next-shorter row short none = let some = next_row-shorter 32767 row short in let wrong : Some (row ++ 0 ∷ []) ≡ None = sym some ∙ none in cc
+
+-- one of the longest has one where a byte is below 255
+pub has_next-kept : (row : List ℕ) (kept : ℕ) → length row ≡ 32767 → kept ≤ length row → next_row (length row) row ≡ next_row kept (take kept row) →
+    (0 < kept → get_or row (kept - 1) 0 < 255) → IsTrue (nat_lt 0 kept) ↔ (next_row 32767 row ≢ None)
+has_next-kept row kept long within same last =
+    let whole : next_row 32767 row ≡ next_row kept (take kept row) = ap (λ n. next_row n row) (sym long) ∙ same in
+    decided (nat_lt 0 kept)
+    (λ e none.
+    let some : 0 < kept = grind (arith, nat_tests) in
+    let up = next_row-up row kept some within (last some) in
+    let wrong : Some (take (kept - 1) row ++ (get_or row (kept - 1) 0 + 1) ∷ []) ≡ None = sym up ∙ sym whole ∙ none in cc)
+    (λ e some. let zero_kept : kept ≡ 0 = grind (arith, nat_tests) in some (whole ∙ next_row-none kept (take kept row) zero_kept))

@@ -8,7 +8,7 @@ use Rattle.hb_grammar.specs.Marked.{Avoids}
 use Rattle.hb_grammar.proofs.AvoidsLemmas.{Free, Lacks, Lacks-AllIn, Avoids-Free}
 use Rattle.hb_row_text.specs.RowText.{row_text, IsRowText}
 use Rattle.hb_row_text.specs.RowDigits.{DigitsLeft, IsRowDigits}
-use Rattle.hb_row_text.proofs.DigitLemmas.{AllIn-encode_lower, IsRead-AllIn}
+use Rattle.hb_grammar.proofs.LowerHexLemmas.{AllIn-encode_lower, IsRead-AllIn}
 
 -- the text of a row that is not empty has two digits for each byte
 pub row_text-some : (row : List ℕ) → 0 < length row → row_text row ≡ encode_lower row
@@ -20,7 +20,7 @@ IsRowText-DigitsLeft : (bytes : List ℕ) → 0 < length bytes → DigitsLeft 65
 IsRowText-DigitsLeft bytes some digits =
     let most = digits.most in
     let even = digits.even in
-    let read = IsRead-AllIn bytes (omega arith) digits.each in
+    let read = IsRead-AllIn 0 bytes (omega arith) digits.each in
     let long : length bytes ≡ 2 * length read.0 = sym (ap length read.1.encoded) ∙ length-encode_with lower_digits read.0 in
     record { row = read.0; small = read.1.small; limit = omega arith; whole = sym (row_text-some read.0 (omega arith) ∙ read.1.encoded) }
 

@@ -16,13 +16,13 @@ next_row (suc room) [] = Some (0 ∷ [])
 next_row (suc room) (byte ∷ bytes) = before_next byte (next_row room bytes)
 
 -- there is a next row, and the other row is not below it
-abbrev pub IsAtLeast : Option (List ℕ) → List ℕ → Type 0
-IsAtLeast None other = ⊥
-IsAtLeast (Some next) other = is_le (slice_cmp nat_cmp next other) ≡ true
+abbrev pub IsFrom : Option (List ℕ) → List ℕ → Type 0
+IsFrom None other = ⊥
+IsFrom (Some next) other = is_le (slice_cmp nat_cmp next other) ≡ true
 
 -- among the rows of at most room bytes, those above a row are the next one and those above that
 pub record IsNext (room : ℕ) (row : List ℕ) (next : Option (List ℕ)) : Type 0 where
-  pub forth : (other : List ℕ) → IsBytes other → length other ≤ room → slice_cmp nat_cmp row other ≡ Less → IsAtLeast next other
-  pub back : (other : List ℕ) → IsAtLeast next other → slice_cmp nat_cmp row other ≡ Less
+  pub forth : (other : List ℕ) → IsBytes other → length other ≤ room → slice_cmp nat_cmp row other ≡ Less → IsFrom next other
+  pub back : (other : List ℕ) → IsFrom next other → slice_cmp nat_cmp row other ≡ Less
   pub limit : (found : List ℕ) → next ≡ Some found → length found ≤ room
   pub small : (found : List ℕ) → next ≡ Some found → IsBytes row → IsBytes found

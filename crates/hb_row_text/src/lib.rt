@@ -9,5 +9,5 @@ pub mod row_text;
 mod tests;
 
 pub use grammar::{RowGrammar, row_grammar};
-pub use next::next_row;
+pub use next::{has_next_row, next_row};
 pub use row_text::{read_row, write_row};

@@ -1,9 +1,9 @@
 use Rattle.hb_grammar.proofs.SameLemmas.{Same_refl, Same_trans, Same-Joined, Same-Marked, Same-EitherOf, Avoids-Same}
-use Rattle.hb_file_names.proofs.FreeLemmas.{Avoids-IsNumeral}
+use Rattle.hb_file_names.proofs.FreeLemmas.{Avoids-seq}
 use Rattle.hb_file_names.proofs.suffix.suffix_parts.Goals as goal
 
 pub new-number-requires : goal.new-number-requires
-new-number-requires c = Avoids-Same _ _ 95 c.new.ensures Avoids-IsNumeral
+new-number-requires c = Avoids-Same _ _ 95 c.new.ensures Avoids-seq
 
 pub returns : goal.returns
 returns c =

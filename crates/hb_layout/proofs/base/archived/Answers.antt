@@ -4,5 +4,5 @@ use Rattle.hb_layout.specs.Spot.{Archived}
 use Rattle.hb_layout.proofs.LawfulLemmas.{IsPlace-place_text}
 use Rattle.hb_layout.proofs.base.archived.Goals as goal
 
-pub of-requires : goal.of-requires
-of-requires c = subst IsPlace (sym c.in_ok-text_below.ensures.text) (IsPlace-place_text (Archived c.args.base.now) c.in_ok-text_below.ensures.lawful)
+pub from_blob-requires : goal.from_blob-requires
+from_blob-requires c = subst IsPlace (sym c.in_ok-text_below.ensures.text) (IsPlace-place_text (Archived c.args.base.now) c.in_ok-text_below.ensures.spelled)

@@ -2,7 +2,7 @@ use Rattle.std.proofs.Common.{◌≡◌, ℕ, Vec, Global, ap, sym, ◌∙◌, s
 use Rattle.hex.specs.Hex.{encode_lower}
 use Rattle.hb_grammar.specs.declared.class.Class.TheVariants.{LowerHex}
 use Rattle.hb_grammar.specs.Run.{IsExactly}
-use Rattle.hb_names.proofs.LowerHexLemmas.{IsExactly-encode_lower}
+use Rattle.hb_grammar.proofs.LowerHexLemmas.{IsExactly-encode_lower}
 use Rattle.hb_names.proofs.region_name.encode_digest.Goals as goal
 
 pub of_digits-requires : goal.of_digits-requires
