@@ -4,3 +4,4 @@ pub mod NumberLineLemmas
 pub mod RefusalLemmas
 pub mod NumberToldLemmas
 pub mod WordLemmas
+pub mod NumberedLemmas

@@ -6,7 +6,7 @@ use Rattle.hb_grammar.proofs.LeavesLemmas.{IsFault-Leaves}
 use Rattle.hb_grammar.proofs.TextOfLemmas.{Leaves-IsPair, IsFault-IsPair_first}
 use Rattle.commit_line.specs.declared.error.ListError.{ListError}
 use Rattle.commit_line.specs.declared.error.ListError.TheVariants.{BadList, NoMemory}
-use Rattle.commit_line.specs.ListError.{IsRefusal, IsRefusalAt, IsFrontRefusal, IsValueAt}
+use Rattle.commit_line.specs.ListError.{IsFileRefusal, IsRefusalAt, IsFrontRefusal, IsValueAt}
 
 -- a refusal of what stands from a place on is one of each grammar that has the same strings
 pub IsRefusalAt-Same : (a b : List ℕ → Type 0) → Same a b → (bytes : List ℕ) (at : ℕ) (error : ListError) → IsRefusalAt a bytes at error →
@@ -37,7 +37,7 @@ IsRefusalAt-IsPair_second {V} {W} valid text valid' text' told bytes at mid v fi
 IsRefusalAt-IsPair_second {V} {W} valid text valid' text' told bytes at mid v first NoMemory refused = tt
 
 -- a refusal of what stands from the first byte on is one of the bytes
-pub IsRefusal-IsRefusalAt : (spells : List ℕ → Type 0) (bytes : List ℕ) (error : ListError) → IsRefusalAt spells bytes 0 error → IsRefusal spells bytes error
-IsRefusal-IsRefusalAt spells bytes (BadList place) refused =
+pub IsFileRefusal-IsRefusalAt : (spells : List ℕ → Type 0) (bytes : List ℕ) (error : ListError) → IsRefusalAt spells bytes 0 error → IsFileRefusal spells bytes error
+IsFileRefusal-IsRefusalAt spells bytes (BadList place) refused =
     let same : refused.0 ≡ place = omega (arith, refused.1) in subst (IsFault spells bytes) same refused.2
-IsRefusal-IsRefusalAt spells bytes NoMemory refused = tt
+IsFileRefusal-IsRefusalAt spells bytes NoMemory refused = tt

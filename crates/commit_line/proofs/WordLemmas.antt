@@ -4,7 +4,8 @@ use Rattle.hb_grammar.specs.Marked.{Marked, Avoids}
 use Rattle.hb_grammar.specs.TextOf.{IsTextOf, IsTold}
 use Rattle.hb_grammar.proofs.SameLemmas.{Same-Marked}
 use Rattle.hb_grammar.proofs.MarkedTextLemmas.{IsTold-marked}
-use Rattle.commit_line.specs.declared.error.ListError.{ListError}
+use Rattle.commit_line.specs.declared.error.BadText.{BadText}
+use Rattle.commit_line.specs.declared.error.ListError.TheVariants.{BadList}
 use Rattle.commit_line.specs.ListError.{IsWord, IsWordEnd}
 use Rattle.commit_line.proofs.ReadLemmas.{IsFrontRefusal-Same}
 
@@ -30,8 +31,8 @@ IsWord-Same a b same mark bytes at end found = record {
 }
 
 -- where a word of a grammar ends, one does of each grammar that has the same strings
-pub IsWordEnd-Same : (a b : List ℕ → Type 0) → Same a b → (mark : ℕ) (bytes : List ℕ) (at : ℕ) (result : Result ℕ ListError) →
+pub IsWordEnd-Same : (a b : List ℕ → Type 0) → Same a b → (mark : ℕ) (bytes : List ℕ) (at : ℕ) (result : Result ℕ BadText) →
     IsWordEnd a mark bytes at result → IsWordEnd b mark bytes at result
 IsWordEnd-Same a b same mark bytes at (Ok end) word = IsWord-Same a b same mark bytes at end word
-IsWordEnd-Same a b same mark bytes at (Err error) refused =
-    IsFrontRefusal-Same (Marked a mark) (Marked b mark) (Same-Marked a b mark same) bytes at error refused
+IsWordEnd-Same a b same mark bytes at (Err bad) refused =
+    IsFrontRefusal-Same (Marked a mark) (Marked b mark) (Same-Marked a b mark same) bytes at (BadList bad.0) refused

@@ -1,3 +1,4 @@
 pub mod Line
 pub mod ListError
+pub mod Numbered
 pub mod Rows

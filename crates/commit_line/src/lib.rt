@@ -4,5 +4,8 @@
 pub mod error;
 pub mod line;
 
-pub use error::ListError;
-pub use line::{read_number, word_end};
+pub use error::{BadText, ListError};
+pub use line::{check_number, read_number, word_end};
+
+#[cfg(test)]
+mod tests;

@@ -1,12 +1,12 @@
-use Rattle.std.proofs.Common.{◌≡◌, ◌≢◌, ℕ, ◌+◌, ◌-◌, ◌^◌, ◌<◌, ◌≤◌, List, [], ◌∷◌, ◌++◌, length, take, drop, get_or, refl, sym, subst, ap, ◌∙◌, inl, inr, ◌⊎◌, arith, true, Option, Some, None, unwrap_or, max}
+use Rattle.std.proofs.Common.{◌≡◌, ◌≢◌, ℕ, ◌+◌, ◌-◌, ◌^◌, ◌<◌, ◌≤◌, List, [], ◌∷◌, ◌++◌, length, take, drop, get_or, refl, sym, subst, ap, ◌∙◌, inl, inr, ◌⊎◌, arith, Option, Some, None, unwrap_or, max}
 use Rattle.std.proofs.lemmas.List.{take-append-drop, drop_more, take_more}
 use Rattle.std.specs.Fmt.{decimal}
 use Rattle.std.proofs.lemmas.Fmt.{decimal_injective}
 use Rattle.std.proofs.lemmas.Bool.{cases_lt}
-use Rattle.hb_grammar.specs.Number.{IsNumeral}
-use Rattle.hb_grammar.proofs.AvoidsLemmas.{Avoids-Free, Free-IsNumeral}
+use Rattle.hb_grammar.specs.Numeral.{IsNumeral}
+use Rattle.hb_grammar.proofs.NumeralLemmas.{Avoids-IsNumeral}
 use Rattle.hb_grammar.proofs.FrontLemmas.{GoesOn-cuts}
-use Rattle.commit_line.specs.Line.{IsNumber}
+use Rattle.commit_line.specs.Numbered.{IsListNumber}
 use Rattle.commit_line.proofs.NumberLineLemmas.{Same-IsNumeral}
 use Rattle.commit_list.specs.CommitNumber.{IsBehindSlash, HasNoSlash, IsNumbered, IsNumberAmong, IsNumberOf, IsGreatest, IsNewest, newer}
 
@@ -51,28 +51,28 @@ IsBehindSlash-alone place a b plain plain' (inr p) (inr q) =
     [ inl on ↦ apart on.0 a b plain on.2 | inr on ↦ sym (apart on.0 b a plain' on.2) ]
 
 -- no number has a /
-pub HasNoSlash-decimal : (number : ℕ) → IsNumber true 9_223_372_036_854_775_807 number → HasNoSlash (decimal number)
+pub HasNoSlash-decimal : (number : ℕ) → IsListNumber number → HasNoSlash (decimal number)
 HasNoSlash-decimal number within front rest e =
-    let numeral = (Same-IsNumeral true 9_223_372_036_854_775_807 (omega arith)).back (decimal number) (number, within, refl) in
-    Avoids-Free (IsNumeral true 9_223_372_036_854_775_807) 47 (Free-IsNumeral true 9_223_372_036_854_775_807 47 refl) front rest
-    (subst (IsNumeral true 9_223_372_036_854_775_807) e numeral)
+    let numeral = (Same-IsNumeral 1 9_223_372_036_854_775_807).back (decimal number) (number, within, refl) in
+    Avoids-IsNumeral 1 9_223_372_036_854_775_807 47 (omega arith) refl front rest
+    (subst (IsNumeral 1 9_223_372_036_854_775_807) e numeral)
 
 -- the number of a place is that of its last component
 pub IsNumeral-IsNumbered : (place component : List ℕ) (number : ℕ) → IsBehindSlash place component → HasNoSlash component → IsNumbered place number →
-    IsNumeral true 9_223_372_036_854_775_807 component
+    IsNumeral 1 9_223_372_036_854_775_807 component
 IsNumeral-IsNumbered place component number last plain numbered =
     let same : component ≡ decimal number =
     IsBehindSlash-alone place component (decimal number) plain (HasNoSlash-decimal number numbered.0) last numbered.1 in
-    (Same-IsNumeral true 9_223_372_036_854_775_807 (omega arith)).back component (number, numbered.0, same)
+    (Same-IsNumeral 1 9_223_372_036_854_775_807).back component (number, numbered.0, same)
 
 -- where that is a numeral, it tells the number
-pub IsNumbered-IsNumeral : (place component : List ℕ) (number : ℕ) → IsBehindSlash place component → IsNumeral true 9_223_372_036_854_775_807 component →
+pub IsNumbered-IsNumeral : (place component : List ℕ) (number : ℕ) → IsBehindSlash place component → IsNumeral 1 9_223_372_036_854_775_807 component →
     decimal number ≡ component → number < 2 ^ 64 → IsNumbered place number
 IsNumbered-IsNumeral place component number last numeral e small =
-    let spelled = (Same-IsNumeral true 9_223_372_036_854_775_807 (omega arith)).forth component numeral in
+    let spelled = (Same-IsNumeral 1 9_223_372_036_854_775_807).forth component numeral in
     let within = spelled.1.1 in
     let same : spelled.0 ≡ number = decimal_injective spelled.0 number (omega arith) small (sym spelled.2 ∙ sym e) in
-    (subst (IsNumber true 9_223_372_036_854_775_807) same spelled.1, subst (IsBehindSlash place) (sym e) last)
+    (subst (IsListNumber) same spelled.1, subst (IsBehindSlash place) (sym e) last)
 
 -- a number among places and one more is among these, or the last one's
 IsNumberAmong-push : (places : List (List ℕ)) (place : List ℕ) (number : ℕ) → IsNumberAmong (places ++ place ∷ []) number → IsNumberAmong places number ⊎ IsNumbered place number

@@ -1,6 +1,6 @@
-use Rattle.std.specs.Prelude.{◌≡◌, ◌⊎◌, ℕ, ◌≤◌, List, [], ◌∷◌, ◌++◌, Option, Some, None, true, max, unwrap_or}
+use Rattle.std.specs.Prelude.{◌≡◌, ◌⊎◌, ℕ, ◌≤◌, List, [], ◌∷◌, ◌++◌, Option, Some, None, max, unwrap_or}
 use Rattle.std.specs.Fmt.{decimal}
-use Rattle.commit_line.specs.Line.{IsNumber}
+use Rattle.commit_line.specs.Numbered.{IsListNumber}
 
 -- the last component of the bytes, between / and the end, or the bytes without one; 47 is /
 abbrev pub IsBehindSlash : List ℕ → List ℕ → Type 0
@@ -12,7 +12,7 @@ HasNoSlash bytes = (front rest : List ℕ) → bytes ≡ front ++ 47 ∷ rest �
 
 -- a place whose last component is this number in decimal, 1 to 2 ^ 63 - 1
 abbrev pub IsNumbered : List ℕ → ℕ → Type 0
-IsNumbered place number = IsNumber true 9_223_372_036_854_775_807 number × IsBehindSlash place (decimal number)
+IsNumbered place number = IsListNumber number × IsBehindSlash place (decimal number)
 
 -- the number of one of the places
 abbrev pub IsNumberAmong : List (List ℕ) → ℕ → Type 0

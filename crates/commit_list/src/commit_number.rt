@@ -3,7 +3,7 @@
 ghost use Rattle.std.specs.Prelude.{◌≡◌};
 ghost use Rattle.commit_list.specs.CommitNumber.{IsBehindSlash, HasNoSlash, IsNumberOf, IsNewest, newer};
 
-use hb_grammar::{Number, number_of, scan};
+use hb_grammar::{Between, number_of, scan};
 use hb_names::Place;
 use hb_wire::Items;
 
@@ -27,7 +27,7 @@ fn number_of_place(place: &[u8]) -> Option<u64>
     ensures { IsNumberOf place.now result }
 {
     let component = last_component(place);
-    match scan(Number::new(true, MAX), component) {
+    match scan(Between::new(1, MAX), component) {
         Ok(()) => Some(number_of(component)),
         Err(_) => None,
     }

@@ -1,12 +1,12 @@
 //! Entries of store lists.
 
-ghost use Rattle.std.specs.Prelude.{◌≡◌, ◌≤◌, ◌++◌, length, OnOk, true, false};
+ghost use Rattle.std.specs.Prelude.{◌≡◌, ◌≤◌, ◌++◌, length, OnOk, true, false, IsTrue, ◌↔◌};
 ghost use Rattle.hb_grammar.specs.Grammar.{Same};
 ghost use Rattle.hb_grammar.specs.TextOf.{IsTextOf};
 ghost use Rattle.commit_line.specs.ListError.{IsWordEnd, IsRead};
 ghost use Rattle.commit_list.specs.ListEntry.{IsKind, kind_word, IsNameOf, IsEntry, entry_text};
 
-use commit_line::{ListError, word_end};
+use commit_line::{BadText, ListError, word_end};
 use hb_file_names::file_grammar::file_grammar;
 use hb_file_names::link_grammar::link_grammar;
 use hb_file_names::ref_grammar::reference_grammar;
@@ -38,8 +38,7 @@ pub struct ListEntry {
 impl ListEntry {
     /// Whether the name is one of the entry's kind.
     pub fn is_valid(&self) -> bool
-        ensures yes { result ≡ true → IsEntry self.now }
-        ensures no { result ≡ false → IsEntry self.now → ⊥ }
+        ensures { IsTrue result ↔ IsEntry self.now }
     {
         // The family's name is one by its type.
         let _family = self.family.as_slice();
@@ -123,7 +122,7 @@ fn is_name_of(kind: EntryKind, name: &[u8]) -> bool
 }
 
 /// The place behind the name of a kind that stands at a place, and behind its line feed.
-fn name_end(kind: EntryKind, bytes: &[u8], at: usize) -> Result<usize, ListError>
+fn name_end(kind: EntryKind, bytes: &[u8], at: usize) -> Result<usize, BadText>
     requires { at ≤ length bytes.now }
     ensures { IsWordEnd (IsNameOf kind) 10 bytes.now at result }
 {
@@ -149,7 +148,7 @@ pub(crate) fn read_entry(
     let end = name_end(kind, bytes, name_at)?;
     let entry = ListEntry {
         kind,
-        family: FamilyName::of(alloc, &bytes[family_at..name_at - 1])?,
+        family: FamilyName::copy_of(alloc, &bytes[family_at..name_at - 1])?,
         name: Blob::copy_of(alloc, &bytes[name_at..end - 1])?,
     };
     Ok((entry, end))

@@ -1,18 +1,20 @@
 //! Store lists of regions.
 
-ghost use Rattle.std.specs.Prelude.{◌≡◌, ◌≤◌, ◌++◌, length, drop, IfOk, IfErr, OnOk, true, false};
+ghost use Rattle.std.specs.Prelude.{◌≡◌, ◌≤◌, ◌++◌, length, drop, IfOk, IfErr, OnOk, Err, codes, true, false, IsTrue, ◌↔◌};
 ghost use Rattle.std.specs.List.{AllByRecursion};
 ghost use Rattle.hb_grammar.specs.TextOf.{IsTextOf};
-ghost use Rattle.commit_line.specs.ListError.{IsRefusal, IsRefusalAt};
+ghost use Rattle.commit_line.specs.ListError.{IsFileRefusal, IsRefusalAt};
 ghost use Rattle.commit_list.specs.ListEntry.{IsEntry};
 ghost use Rattle.commit_line.specs.Line.{number_line};
 ghost use Rattle.commit_list.specs.declared.region_list.RegionList.{RegionList};
-ghost use Rattle.commit_list.specs.RegionList.{IsRegionList, region_list_text, entries_text, IsListFile, GivesList, IsListOf, IsOtherFile, IsRefusalOf, RefusesOther};
+ghost use Rattle.commit_list.specs.RegionList.{IsRegionList, region_list_text, entries_text, IsListFile, GivesList};
+ghost use Rattle.commit_line.specs.Numbered.{HasOtherNumber, IsNumberedRefusal};
+ghost use Rattle.commit_line.specs.declared.error.ListError.TheVariants.{BadList};
 
 use crate::list_entry::{ListEntry, read_entry};
-use commit_line::{ListError, read_number};
+use commit_line::{ListError, check_number, read_number};
 use hb_grammar::{Literal, scan};
-use hb_wire::{Blob, Items, NoMemory};
+use hb_wire::{Blob, Copied, Items, NoMemory};
 use std::alloc::Global;
 
 /// The greatest number of a list, and the greatest sequence number.
@@ -20,7 +22,7 @@ const MAX: u64 = 9_223_372_036_854_775_807;
 
 /// The store list of a region: its number, the greatest sequence number of its files, and its entries in the
 /// order in which they joined.
-#[derive(Debug, Drop)]
+#[derive(Debug, Drop, PartialEq, Eq)]
 pub struct RegionList {
     pub number: u64,
     pub seq: u64,
@@ -49,29 +51,16 @@ fn read_entries(alloc: Global, bytes: &[u8], at: usize) -> Result<Items<ListEntr
 /// What [`RegionList::decode`] answers.
 fn all_of_list(alloc: Global, bytes: &[u8]) -> Result<RegionList, ListError>
     ensures found { IfOk result (λ list. IsRegionList list × (bytes.now ≡ region_list_text list)) }
-    ensures fault { IfErr result (IsRefusal IsListFile bytes.now) }
+    ensures fault { IfErr result (IsFileRefusal IsListFile bytes.now) }
 {
-    let (number, seq_at) = read_number(b"list ", true, MAX, bytes, 0)?;
-    let (seq, entries_at) = read_number(b"seq ", false, MAX, bytes, seq_at)?;
+    let (number, seq_at) = read_number(b"list ", 1, MAX, bytes, 0)?;
+    let (seq, entries_at) = read_number(b"seq ", 0, MAX, bytes, seq_at)?;
     let entries = read_entries(alloc, bytes, entries_at)?;
     Ok(RegionList {
         number,
         seq,
         entries,
     })
-}
-
-/// What [`RegionList::read`] answers.
-fn list_of_number(alloc: Global, number: u64, bytes: &[u8]) -> Result<RegionList, ListError>
-    ensures found { IfOk result (λ list. IsListOf number list × (bytes.now ≡ region_list_text list)) }
-    ensures fault { IfErr result (IsRefusalOf number bytes.now) }
-{
-    let list = RegionList::decode(alloc, bytes)?;
-    if list.number == number {
-        Ok(list)
-    } else {
-        Err(ListError::BadList(0))
-    }
 }
 
 /// Adds a word, a blank, a number and a line feed at the end of `text`.
@@ -116,23 +105,26 @@ impl RegionList {
         // What is some list's file is read as this list.
         ensures only { (list : RegionList) → IsRegionList list → bytes.now ≡ region_list_text list → GivesList result list }
         // Which fault it is.
-        ensures fault { IfErr result (IsRefusal IsListFile bytes.now) }
+        ensures fault { IfErr result (IsFileRefusal IsListFile bytes.now) }
     {
         all_of_list(alloc, bytes)
     }
 
-    /// The list of this number whose file has these bytes. A list of another number is refused at place 0.
+    /// The list of this number whose file has these bytes. Where the file begins with another number the
+    /// answer is `BadList(0)`, before any fault of what stands behind.
     pub fn read(alloc: Global, number: u64, bytes: &[u8]) -> Result<RegionList, ListError>
         // What is read is this list's file, each byte of it.
-        ensures found { IfOk result (λ list. IsListOf number list × (bytes.now ≡ region_list_text list)) }
-        // What is some list's file is read as this list.
-        ensures only { (list : RegionList) → IsListOf number list → bytes.now ≡ region_list_text list → GivesList result list }
-        // What is the file of a list of another number is refused.
-        ensures other { IsOtherFile number bytes.now → RefusesOther result }
+        ensures found { IfOk result (λ list. IsRegionList list × (bytes.now ≡ region_list_text list)) }
+        ensures number { IfOk result (λ list. list.number ≡ number) }
+        // What is some list's file, and has the number, is read as this list.
+        ensures only { (list : RegionList) → IsRegionList list → bytes.now ≡ region_list_text list → list.number ≡ number → GivesList result list }
+        // What begins with another number is refused at place 0.
+        ensures other { HasOtherNumber (codes "list ") number bytes.now → result ≡ Err (BadList 0) }
         // Which fault it is.
-        ensures fault { IfErr result (IsRefusalOf number bytes.now) }
+        ensures fault { IfErr result (IsNumberedRefusal (codes "list ") IsListFile number bytes.now) }
     {
-        list_of_number(alloc, number, bytes)
+        check_number(b"list ", number, bytes)?;
+        all_of_list(alloc, bytes)
     }
 
     /// The bytes of the list's file.
@@ -149,12 +141,21 @@ impl RegionList {
 
     /// Whether a file can have the list.
     pub fn is_valid(&self) -> bool
-        ensures yes { result ≡ true → IsRegionList self.now }
-        ensures no { result ≡ false → IsRegionList self.now → ⊥ }
+        ensures { IsTrue result ↔ IsRegionList self.now }
     {
         self.number > 0
             && self.number <= MAX
             && self.seq <= MAX
             && are_valid(self.entries.as_slice())
+    }
+}
+
+impl Copied for RegionList {
+    fn copy(&self) -> Result<RegionList, NoMemory> {
+        Ok(RegionList {
+            number: self.number,
+            seq: self.seq,
+            entries: self.entries.copy()?,
+        })
     }
 }

@@ -3,7 +3,8 @@
 use crate::{RegionList, newest};
 use commit_line::ListError;
 use hb_names::Place;
-use hb_wire::Items;
+use hb_wire::{Blob, Copied, Items};
+use std::alloc::Global;
 use std::test::Fail;
 
 /// An entry of each kind.
@@ -21,27 +22,50 @@ fn place_of(found: Result<RegionList, ListError>) -> Option<u64> {
     }
 }
 
-#[test]
-fn writes_no_entries(rt: HostRuntime) -> Result<(), Fail> {
-    let list = RegionList {
-        number: 1,
-        seq: 3,
-        entries: Items::new(rt.alloc()),
-    };
-    assert!(rt; list.is_valid());
-    assert_eq!(rt;
-        list.encode(rt.alloc())?.as_slice(),
-        b"list 1\nseq 3\nend\n".as_slice()
-    );
-    Ok(())
+/// A list that is read, copied and written.
+fn list_again(alloc: Global, bytes: &[u8]) -> Result<Blob, Fail> {
+    let list = RegionList::decode(alloc, bytes)?.copy()?;
+    if list.is_valid() {
+        Ok(list.encode(alloc)?)
+    } else {
+        Ok(Blob::copy_of(alloc, b"no valid list")?)
+    }
 }
 
 #[test]
-fn reads_an_entry_of_each_kind(rt: HostRuntime) -> Result<(), Fail> {
-    let list = RegionList::read(rt.alloc(), 1, THREE)?;
+fn lists_are_read_copied_and_written(rt: HostRuntime) -> Result<(), Fail> {
+    let alloc = rt.alloc();
+    let lists: [&[u8]; 3] = [
+        b"list 1\nseq 3\nend\n",
+        b"list 9223372036854775807\nseq 0\nend\n",
+        THREE,
+    ];
+    for bytes in lists {
+        assert_eq!(rt; list_again(alloc, bytes)?.as_slice(), bytes);
+    }
+    let list = RegionList::read(alloc, 1, THREE)?;
     assert_eq!(rt; list.entries.len(), 3);
-    assert_eq!(rt; list.encode(rt.alloc())?.as_slice(), THREE);
-    assert_eq!(rt; place_of(RegionList::read(rt.alloc(), 2, THREE)), Some(0));
+    for entry in list.entries.as_slice() {
+        assert!(rt; entry.copy()? == *entry);
+    }
+    Ok(())
+}
+
+/// The number that is asked for comes before any fault behind it, and behind one in its own line.
+#[test]
+fn another_number_comes_first(rt: HostRuntime) -> Result<(), Fail> {
+    let files: [(u64, &[u8], u64); 4] = [
+        (2, THREE, 0),
+        (2, b"list 1\nend\n", 0),
+        (1, b"list 1\nend\n", 7),
+        (2, b"list 01\nseq 3\nend\n", 5),
+    ];
+    for (number, bytes, place) in files {
+        assert_eq!(rt;
+            place_of(RegionList::read(rt.alloc(), number, bytes)),
+            Some(place)
+        );
+    }
     Ok(())
 }
 

@@ -47,11 +47,11 @@ IsLive-IsNameBehind (Some last) named =
 
 -- the numbers of versions
 abbrev pub IsVersions : ℕ → Type 0
-IsVersions = IsNumber true 2_147_483_647
+IsVersions = IsNumber 1 2_147_483_647
 
 -- there is a number of versions
 pub IsLive-IsVersions : IsLive (IsTextOf IsVersions last_number)
-IsLive-IsVersions = (last_number 1, (1, (λ _. omega arith, omega arith), refl))
+IsLive-IsVersions = (last_number 1, (1, (omega arith, omega arith), refl))
 
 -- a name behind a family, and a number of versions
 abbrev pub IsNamed : Option (List ℕ × ℕ) → List ℕ × ℕ → Type 0
@@ -63,7 +63,7 @@ named_text = pair_text field last_number
 
 -- there are such
 pub IsLive-IsNamed : (last : Option (List ℕ × ℕ)) → IsLive (IsNameBehind last) → IsLive (IsTextOf (IsNamed last) named_text)
-IsLive-IsNamed last live = (named_text (live.0, 1), ((live.0, 1), (live.1, (λ _. omega arith, omega arith)), refl))
+IsLive-IsNamed last live = (named_text (live.0, 1), ((live.0, 1), (live.1, (omega arith, omega arith)), refl))
 
 -- they are a family
 pub IsFamilyBehind-IsNamed : (last : Option (List ℕ × ℕ)) (family : List ℕ × ℕ) → IsNamed last family → IsFamilyBehind last family
@@ -97,7 +97,7 @@ Same-family last =
 pub IsTold-family : (last : Option (List ℕ × ℕ)) → IsTold (IsFamilyBehind last) family_text
 IsTold-family last v w a b ok ok' e =
     let named = IsTold-IsPair (IsNameBehind last) field (λ _. IsVersions) last_number (IsTold-field (IsNameBehind last) (Avoids-IsNameBehind last))
-    (λ _ _. IsTold-last_number true 2_147_483_647 (omega arith)) in
+    (λ _ _. IsTold-last_number 1 2_147_483_647 (omega arith)) in
     let line = IsTold-IsPair Always (λ word. field (family_word word)) (λ _. IsNamed last) named_text (IsTold-Always (field (codes "family"))) (λ _ _. named) in
     let same = line (tt, v) (tt, w) a b (tt, IsNamed-IsFamilyBehind last v ok) (tt, IsNamed-IsFamilyBehind last w ok') e in
     ap (λ p. p.1) same

@@ -38,8 +38,8 @@ abbrev pub last_number : ℕ → List ℕ
 last_number number = ended (decimal number)
 
 -- numbers at the ends of lines are told
-pub IsTold-last_number : (positive : Bool) (max : ℕ) → max < 2 ^ 64 → IsTold (IsNumber positive max) last_number
-IsTold-last_number positive max small = IsTold-number_line [] positive max small
+pub IsTold-last_number : (low max : ℕ) → max < 2 ^ 64 → IsTold (IsNumber low max) last_number
+IsTold-last_number low max small = IsTold-number_line [] low max small
 
 -- an error that is passed on is that of a reading
 pub IsRead-Err : {V : Type 0} (valid : V → Type 0) (text : V → List ℕ) (bytes : List ℕ) (at : ℕ) (result : Result (V × ℕ) ListError) (error : ListError) →

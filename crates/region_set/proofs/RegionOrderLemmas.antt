@@ -33,12 +33,12 @@ IsFromRow None row = Unit {0}
 IsFromRow (Some bound) row = IsAtLeast bound row
 
 -- a region of a lower id has a start above: from the next row on
-above_start : (next : Option (List ℕ)) (row : List ℕ) → NextRow.IsAtLeast next row → IsFromRow next row
+above_start : (next : Option (List ℕ)) (row : List ℕ) → NextRow.IsFrom next row → IsFromRow next row
 above_start None row from = absurd from
 above_start (Some next) row from = not_greater (slice_cmp nat_cmp next row) from
 
 -- and the next row is there
-least_above : (next : Option (List ℕ)) (row : List ℕ) (id : ℕ) → NextRow.IsAtLeast next row → id_unless next id ≡ 0
+least_above : (next : Option (List ℕ)) (row : List ℕ) (id : ℕ) → NextRow.IsFrom next row → id_unless next id ≡ 0
 least_above None row id from = absurd from
 least_above (Some next) row id from = refl
 
@@ -85,7 +85,7 @@ from_bounds s t i j row n false e =
     (omega arith, le_start (slice_cmp nat_cmp s t) i j n)
 
 -- a start from the next row on is above, where there is one or the ids ascend
-above_next : (next : Option (List ℕ)) (t : List ℕ) (i j : ℕ) → j < i → id_unless next i ≤ j → IsFromRow next t → NextRow.IsAtLeast next t
+above_next : (next : Option (List ℕ)) (t : List ℕ) (i j : ℕ) → j < i → id_unless next i ≤ j → IsFromRow next t → NextRow.IsFrom next t
 above_next None t i j below least from = absurd (omega arith)
 above_next (Some next) t i j below least from = is_le-not_greater (slice_cmp nat_cmp next t) from
 
@@ -161,3 +161,13 @@ IsRegionBehind-IsStart table (Some last) region row ok id start =
 pub least_id-small : (table : List ℕ) (last : Option (RegionInfo × Bool)) → IfSome last (IsRegion table) → least_id last < 2 ^ 64
 least_id-small table None ok = omega arith
 least_id-small table (Some last) ok = let small = ok.id in let least = id_unless-le (next_row 32767 last.0.start) last.0.id in omega arith
+
+-- no id is needed where there is a next row
+pub id_unless-some : (next : Option (List ℕ)) (id : ℕ) → next ≢ None → 0 ≡ id_unless next id
+id_unless-some None id some = absurd (some refl)
+id_unless-some (Some next) id some = refl
+
+-- it is where there is none
+pub id_unless-none : (next : Option (List ℕ)) (id : ℕ) → (next ≢ None → ⊥) → id ≡ id_unless next id
+id_unless-none None id none = refl
+id_unless-none (Some next) id none = absurd (none (λ e. cc))

@@ -5,10 +5,10 @@ use Rattle.std.proofs.lemmas.Cmp.{nat_list_cmp_total, tied_itself}
 use Rattle.hb_grammar.specs.Grammar.{IsLive, Same}
 use Rattle.hb_grammar.specs.Marked.{Marked, Avoids}
 use Rattle.hb_grammar.specs.AtLeast.{IsAtLeast, NotBelow}
-use Rattle.hb_grammar.specs.Between.{IsNumeralBetween}
+use Rattle.hb_grammar.specs.Numeral.{IsNumeral}
 use Rattle.hb_grammar.specs.TextOf.{IsTextOf, IsTold}
 use Rattle.hb_grammar.proofs.AvoidsLemmas.{Lacks, Avoids-Free}
-use Rattle.hb_grammar.proofs.NumeralBetweenLemmas.{Avoids-IsNumeralBetween}
+use Rattle.hb_grammar.proofs.NumeralLemmas.{Avoids-IsNumeral}
 use Rattle.hb_grammar.proofs.SameLemmas.{Same_trans, Same-Marked, Avoids-Same}
 use Rattle.hb_grammar.proofs.TextOfLemmas.{IsTold-IsPair}
 use Rattle.hb_grammar.proofs.MarkedTextLemmas.{IsTold-marked, Same-marked}
@@ -31,7 +31,7 @@ IsFrontRefusal-marked {V} spells valid word mark same bytes at error refused =
     IsFrontRefusal-Same (Marked spells mark) (IsTextOf valid (λ v. word v ++ mark ∷ [])) words bytes at error refused
 
 -- the decimals from a number on are the texts of ids
-pub Same-IsId : (low : ℕ) → Same (IsNumeralBetween low 18_446_744_073_709_551_615) (IsTextOf (IsId low) decimal)
+pub Same-IsId : (low : ℕ) → Same (IsNumeral low 18_446_744_073_709_551_615) (IsTextOf (IsId low) decimal)
 Same-IsId low = record {
   forth = λ bytes between. let most = between.most in (between.number, (between.least, omega arith), between.text);
   back = λ bytes spelled. let small = spelled.1.1 in record { number = spelled.0; least = spelled.1.0; most = omega arith; text = spelled.2 };
@@ -40,7 +40,7 @@ Same-IsId low = record {
 -- no id has a blank
 Avoids-IsId : (low : ℕ) → Avoids (IsTextOf (IsId low) decimal) 32
 Avoids-IsId low front rest spelled =
-    Avoids-IsNumeralBetween low 18_446_744_073_709_551_615 32 (omega arith) refl front rest ((Same-IsId low).back (front ++ 32 ∷ rest) spelled)
+    Avoids-IsNumeral low 18_446_744_073_709_551_615 32 (omega arith) refl front rest ((Same-IsId low).back (front ++ 32 ∷ rest) spelled)
 
 -- an id is told by its decimal and a blank
 pub IsTold-IsId : (low : ℕ) → IsTold (IsId low) id_field
@@ -164,7 +164,7 @@ pub IsTold-IsRest : (bound : Option (List ℕ)) → IsTold (IsRest bound) rest_t
 IsTold-IsRest bound = IsTold-IsPair IsSplit split_field (λ _. AreBounds bound) bounds_text IsTold-IsSplit (λ _ _. IsTold-AreBounds bound)
 
 -- the number of a decimal from a number on is an id
-pub IsId-decimal : (low n : ℕ) (word : List ℕ) → n ≤ 18_446_744_073_709_551_615 → IsNumeralBetween low 18_446_744_073_709_551_615 word → decimal n ≡ word → IsId low n
+pub IsId-decimal : (low n : ℕ) (word : List ℕ) → n ≤ 18_446_744_073_709_551_615 → IsNumeral low 18_446_744_073_709_551_615 word → decimal n ≡ word → IsId low n
 IsId-decimal low n word small between e =
     let most = between.most in
     let same : between.number ≡ n = decimal_injective between.number n (omega arith) (omega arith) (sym (e ∙ between.text)) in

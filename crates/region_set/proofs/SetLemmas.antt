@@ -11,10 +11,12 @@ use Rattle.hb_records.specs.declared.region_info.RegionInfo.{RegionInfo}
 use Rattle.commit_line.specs.declared.error.ListError.{ListError}
 use Rattle.commit_line.specs.declared.error.ListError.TheVariants.{BadList, NoMemory}
 use Rattle.commit_line.specs.Line.{field, ended, IsNumber, number_line}
-use Rattle.commit_line.specs.ListError.{IsRefusal, IsRefusalAt, IsFrontRefusal, IsValueAt}
+use Rattle.commit_line.specs.Numbered.{HasOtherNumber}
+use Rattle.commit_line.proofs.NumberedLemmas.{number_only, number_told}
+use Rattle.commit_line.specs.ListError.{IsFileRefusal, IsRefusalAt, IsFrontRefusal, IsValueAt}
 use Rattle.commit_line.proofs.NumberToldLemmas.{IsTold-number_line}
 use Rattle.commit_line.proofs.ReadLemmas.{Same-map}
-use Rattle.commit_line.proofs.RefusalLemmas.{IsRefusalAt-Same, IsRefusalAt-IsPair_first, IsRefusalAt-IsPair_second, IsRefusal-IsRefusalAt}
+use Rattle.commit_line.proofs.RefusalLemmas.{IsRefusalAt-Same, IsRefusalAt-IsPair_first, IsRefusalAt-IsPair_second, IsFileRefusal-IsRefusalAt}
 use Rattle.region_set.specs.declared.set_state.SetState.{SetState}
 use Rattle.region_set.specs.declared.set_state.SetState.TheVariants.{Enabled}
 use Rattle.region_set.specs.declared.region_set.RegionSet.{RegionSet}
@@ -34,7 +36,7 @@ Rows = List (List ℕ × ℕ) × List (RegionInfo × Bool)
 
 -- a set's number
 abbrev IsSetNumber : ℕ → Type 0
-IsSetNumber = IsNumber true 9_223_372_036_854_775_807
+IsSetNumber = IsNumber 1 9_223_372_036_854_775_807
 
 -- the line of a number
 abbrev set_line : ℕ → List ℕ
@@ -115,7 +117,7 @@ rest_text-injective table v w ok ok' e =
 
 -- a number is told by its line
 IsTold-set_line : IsTold IsSetNumber set_line
-IsTold-set_line = IsTold-number_line (field (codes "set")) true 9_223_372_036_854_775_807 (omega arith)
+IsTold-set_line = IsTold-number_line (field (codes "set")) 1 9_223_372_036_854_775_807 (omega arith)
 
 -- two sets of a table with the same lines are equal
 pub region_set_text-injective : (table : List ℕ) (v w : RegionSet) → IsRegionSet table v → IsRegionSet table w → region_set_text v ≡ region_set_text w → v ≡ w
@@ -142,38 +144,53 @@ IsLive-rest table =
     (rest_text (Enabled, ([], [])), ((Enabled, ([], [])), (tt, bare), refl))
 
 -- a refusal of the parts is one of the set
-IsRefusal-parts : (table bytes : List ℕ) (error : ListError) → IsRefusalAt (IsTextOf (AreParts table) parts_text) bytes 0 error → IsRefusal (IsSetFile table) bytes error
+IsRefusal-parts : (table bytes : List ℕ) (error : ListError) → IsRefusalAt (IsTextOf (AreParts table) parts_text) bytes 0 error → IsFileRefusal (IsSetFile table) bytes error
 IsRefusal-parts table bytes error refused =
-    IsRefusal-IsRefusalAt (IsSetFile table) bytes error (IsRefusalAt-Same (IsTextOf (AreParts table) parts_text) (IsSetFile table) (Same-IsSetFile table) bytes 0 error refused)
+    IsFileRefusal-IsRefusalAt (IsSetFile table) bytes error (IsRefusalAt-Same (IsTextOf (AreParts table) parts_text) (IsSetFile table) (Same-IsSetFile table) bytes 0 error refused)
 
 -- a refusal of the number's line is one of the set
-pub IsRefusal-number : (table bytes : List ℕ) (error : ListError) → IsFrontRefusal (IsTextOf IsSetNumber set_line) bytes 0 error → IsRefusal (IsSetFile table) bytes error
+pub IsRefusal-number : (table bytes : List ℕ) (error : ListError) → IsFrontRefusal (IsTextOf IsSetNumber set_line) bytes 0 error → IsFileRefusal (IsSetFile table) bytes error
 IsRefusal-number table bytes error refused =
     IsRefusal-parts table bytes error (IsRefusalAt-IsPair_first IsSetNumber set_line (λ _. IsRest table) rest_text (λ _ _. IsLive-rest table) bytes 0 error refused)
 
 -- behind it, so is a refusal of the rest
 IsRefusal-rest : (table bytes : List ℕ) (state_at number : ℕ) → IsValueAt IsSetNumber set_line bytes 0 number state_at → (error : ListError) →
-    IsRefusalAt (IsTextOf (IsRest table) rest_text) bytes state_at error → IsRefusal (IsSetFile table) bytes error
+    IsRefusalAt (IsTextOf (IsRest table) rest_text) bytes state_at error → IsFileRefusal (IsSetFile table) bytes error
 IsRefusal-rest table bytes state_at number first error refused =
     IsRefusal-parts table bytes error (IsRefusalAt-IsPair_second IsSetNumber set_line (λ _. IsRest table) rest_text IsTold-set_line bytes 0 state_at number first error refused)
 
 -- that of the state's line
 pub IsRefusal-state : (table bytes : List ℕ) (state_at number : ℕ) → IsValueAt IsSetNumber set_line bytes 0 number state_at → (error : ListError) →
-    IsFrontRefusal (IsTextOf IsState state_line) bytes state_at error → IsRefusal (IsSetFile table) bytes error
+    IsFrontRefusal (IsTextOf IsState state_line) bytes state_at error → IsFileRefusal (IsSetFile table) bytes error
 IsRefusal-state table bytes state_at number first error refused =
     IsRefusal-rest table bytes state_at number first error (IsRefusalAt-IsPair_first IsState state_line (IsBody table) body_text (IsLive-body table) bytes state_at error refused)
 
 -- and behind both, that of the body
 pub IsRefusal-body : (table bytes : List ℕ) (state_at body_at number : ℕ) (state : SetState) → IsValueAt IsSetNumber set_line bytes 0 number state_at →
     IsValueAt IsState state_line bytes state_at state body_at → (error : ListError) → IsRefusalAt (IsTextOf (IsBody table state) body_text) bytes body_at error →
-    IsRefusal (IsSetFile table) bytes error
+    IsFileRefusal (IsSetFile table) bytes error
 IsRefusal-body table bytes state_at body_at number state first second error refused =
     IsRefusal-rest table bytes state_at number first error
     (IsRefusalAt-IsPair_second IsState state_line (IsBody table) body_text IsTold-state bytes state_at body_at state second error refused)
 
 -- an answer that is right gives the set of the bytes
 pub GivesSet-from : (table bytes : List ℕ) (result : Result RegionSet ListError) → IfOk result (λ set. IsRegionSet table set × (bytes ≡ region_set_text set)) →
-    IfErr result (IsRefusal (IsSetFile table) bytes) → (set : RegionSet) → IsRegionSet table set → bytes ≡ region_set_text set → GivesSet result set
+    IfErr result (IsFileRefusal (IsSetFile table) bytes) → (set : RegionSet) → IsRegionSet table set → bytes ≡ region_set_text set → GivesSet result set
 GivesSet-from table bytes (Ok found) read fault set ok e = region_set_text-injective table found set read.0 ok (sym read.1 ∙ e)
 GivesSet-from table bytes (Err NoMemory) read fault set ok e = tt
 GivesSet-from table bytes (Err (BadList place)) read fault set ok e = fault.not_spelled (set, ok, e)
+
+-- what stands behind the number's line
+abbrev behind_number : RegionSet → List ℕ
+behind_number set = ended (state_word set.state) ++ (flat_map family_text set.schema.families ++ (flat_map region_text set.regions ++ ended (codes "end")))
+
+-- the text of a set of this number begins with no other
+pub number_only-set : (table bytes : List ℕ) (number : ℕ) (set : RegionSet) → IsRegionSet table set → bytes ≡ region_set_text set → set.number ≡ number →
+    HasOtherNumber (codes "set ") number bytes → ⊥
+number_only-set table bytes number set ok e same = number_only (codes "set ") number set.number bytes (behind_number set) ok.number e same
+
+-- a set that is read has the number, where its bytes begin with no other
+pub number_told-set : (table bytes : List ℕ) (number : ℕ) (result : Result RegionSet ListError) → (HasOtherNumber (codes "set ") number bytes → ⊥) →
+    IfOk result (λ set. IsRegionSet table set × (bytes ≡ region_set_text set)) → IfOk result (λ set. set.number ≡ number)
+number_told-set table bytes number (Ok set) none found = number_told (codes "set ") number set.number bytes (behind_number set) found.0.number found.1 none
+number_told-set table bytes number (Err error) none found = tt

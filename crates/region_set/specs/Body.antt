@@ -3,9 +3,10 @@ use Rattle.std.specs.List.{flat_map}
 use Rattle.hb_grammar.specs.Rows.{RowsFrom}
 use Rattle.hb_grammar.specs.TextOf.{IsTextOf}
 use Rattle.hb_records.specs.declared.region_info.RegionInfo.{RegionInfo}
+use Rattle.commit_line.specs.declared.error.BadText.{BadText}
 use Rattle.commit_line.specs.declared.error.ListError.{ListError}
 use Rattle.commit_line.specs.Line.{ended}
-use Rattle.commit_line.specs.ListError.{IsRefusalAt}
+use Rattle.commit_line.specs.ListError.{IsFaultAt, IsRefusalAt}
 use Rattle.region_set.specs.declared.set_state.SetState.{SetState}
 use Rattle.region_set.specs.declared.set_state.SetState.TheVariants.{Dropped}
 use Rattle.region_set.specs.FamilyLine.{IsFamilyBehind, family_text}
@@ -16,9 +17,9 @@ abbrev pub IsEnd : List ℕ → Type 0
 IsEnd bytes = bytes ≡ ended (codes "end")
 
 -- the last line stands from a place on, to the file's end; or why it doesn't
-abbrev pub IsEndRead : List ℕ → ℕ → Result Unit ListError → Type 0
+abbrev pub IsEndRead : List ℕ → ℕ → Result Unit BadText → Type 0
 IsEndRead bytes at (Ok _) = IsEnd (drop at bytes)
-IsEndRead bytes at (Err error) = IsRefusalAt IsEnd bytes at error
+IsEndRead bytes at (Err bad) = IsFaultAt IsEnd bytes at bad.0
 
 -- the families and regions that a set of this table and state can have
 pub record IsBody (table : List ℕ) (state : SetState) (body : List (List ℕ × ℕ) × List (RegionInfo × Bool)) : Type 0 where

@@ -7,7 +7,7 @@ use Rattle.commit_line.specs.Line.{field, ended, IsNumber}
 -- a family that a set can have: a name, and 1 to 2 ^ 31 - 1 versions
 pub record IsFamily (family : List ℕ × ℕ) : Type 0 where
   pub name : IsFamilyName family.0
-  pub versions : IsNumber true 2_147_483_647 family.1
+  pub versions : IsNumber 1 2_147_483_647 family.1
 
 -- a family that may stand behind another: its name is not below that one's
 abbrev pub IsFamilyBehind : Option (List ℕ × ℕ) → List ℕ × ℕ → Type 0

@@ -8,11 +8,6 @@ use Rattle.hb_row_text.specs.NextRow.{next_row}
 use Rattle.commit_line.specs.Line.{field, ended}
 use Rattle.region_set.specs.RegionLine.{IsRow, split_word, end_text}
 
--- the row next to the start of a region, where there is a region and such a row
-abbrev pub next_start : Option (RegionInfo × Bool) → Option (List ℕ)
-next_start None = None
-next_start (Some last) = next_row 32767 last.0.start
-
 -- an id where there is no next row, and else 0
 abbrev pub id_unless : Option (List ℕ) → ℕ → ℕ
 id_unless None id = id

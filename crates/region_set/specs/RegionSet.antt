@@ -1,11 +1,11 @@
-use Rattle.std.specs.Prelude.{◌≡◌, ◌≢◌, ◌⊎◌, ℕ, List, [], ◌++◌, codes, None, Result, Ok, Err, true}
+use Rattle.std.specs.Prelude.{◌≡◌, ℕ, List, [], ◌++◌, codes, None, Result, Ok, Err}
 use Rattle.std.specs.List.{flat_map}
 use Rattle.hb_grammar.specs.TextOf.{IsTextOf}
 use Rattle.hb_grammar.specs.Rows.{RowsFrom}
 use Rattle.commit_line.specs.declared.error.ListError.{ListError}
 use Rattle.commit_line.specs.declared.error.ListError.TheVariants.{BadList, NoMemory}
-use Rattle.commit_line.specs.ListError.{IsRefusal}
-use Rattle.commit_line.specs.Line.{ended, IsNumber, number_line}
+use Rattle.commit_line.specs.Line.{ended, number_line}
+use Rattle.commit_line.specs.Numbered.{IsListNumber}
 use Rattle.region_set.specs.SetState.{state_word}
 use Rattle.region_set.specs.declared.set_state.SetState.TheVariants.{Dropped}
 use Rattle.region_set.specs.declared.region_set.RegionSet.{RegionSet}
@@ -14,7 +14,7 @@ use Rattle.region_set.specs.RegionLine.{IsRegionBehind, region_text}
 
 -- a region set that a file of this table can have
 pub record IsRegionSet (table : List ℕ) (set : RegionSet) : Type 0 where
-  pub number : IsNumber true 9_223_372_036_854_775_807 set.number
+  pub number : IsListNumber set.number
   pub of_table : set.schema.table ≡ table
   pub families : RowsFrom IsFamilyBehind None set.schema.families
   pub regions : RowsFrom (IsRegionBehind table) None set.regions
@@ -36,15 +36,3 @@ abbrev pub GivesSet : Result RegionSet ListError → RegionSet → Type 0
 GivesSet (Ok found) set = found ≡ set
 GivesSet (Err NoMemory) set = Unit {0}
 GivesSet (Err (BadList _)) set = ⊥
-
--- the same of a file of this number: a set of another is refused at 0
-abbrev pub GivesNumbered : ℕ → Result RegionSet ListError → RegionSet → Type 0
-GivesNumbered number (Ok found) set = (found ≡ set) × (set.number ≡ number)
-GivesNumbered number (Err NoMemory) set = Unit {0}
-GivesNumbered number (Err (BadList place)) set = (place ≡ 0) × (set.number ≢ number)
-
--- a refusal of a file of this number: that of its bytes, or at 0 where they are those of a set of another
-abbrev pub IsNumberedRefusal : List ℕ → ℕ → List ℕ → ListError → Type 0
-IsNumberedRefusal table number bytes error =
-    IsRefusal (IsSetFile table) bytes error ⊎
-    ((set : RegionSet) × IsRegionSet table set × (bytes ≡ region_set_text set) × (set.number ≢ number) × (error ≡ BadList 0))

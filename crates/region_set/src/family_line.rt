@@ -5,11 +5,11 @@ ghost use Rattle.std.specs.Fmt.{decimal};
 ghost use Rattle.hb_grammar.specs.Grammar.{Same, IsLive};
 ghost use Rattle.hb_grammar.specs.Rows.{IsBegun, RowsFrom};
 ghost use Rattle.commit_line.specs.Line.{ended, IsNumber};
-ghost use Rattle.commit_line.specs.ListError.{IsRead};
+ghost use Rattle.commit_line.specs.ListError.{IsRead, IsFound};
 ghost use Rattle.commit_line.specs.Rows.{AreRowsRead};
 ghost use Rattle.region_set.specs.FamilyLine.{IsFamilyBehind, IsNameBehind, family_text, begins_family};
 
-use commit_line::{ListError, read_number, word_end};
+use commit_line::{BadText, ListError, read_number, word_end};
 use hb_grammar::{AtLeast, Grammar, Literal};
 use hb_names::FamilyName;
 use hb_names::family_grammar::{FamilyGrammar, family_grammar};
@@ -31,11 +31,11 @@ fn name_grammar<'a>(last: Option<&'a (FamilyName, u32)>) -> NameGrammar<'a>
 }
 
 /// The number of versions at a place and before a line feed, and the place behind that.
-fn read_versions(bytes: &[u8], at: usize) -> Result<(u64, usize), ListError>
+fn read_versions(bytes: &[u8], at: usize) -> Result<(u64, usize), BadText>
     requires { at ≤ length bytes.now }
-    ensures { IsRead (IsNumber true 2_147_483_647) (λ number. ended (decimal number)) bytes.now at result }
+    ensures { IsFound (IsNumber 1 2_147_483_647) (λ number. ended (decimal number)) bytes.now at result }
 {
-    read_number(b"", true, 2_147_483_647, bytes, at)
+    read_number(b"", 1, 2_147_483_647, bytes, at)
 }
 
 /// The family whose line stands at a place, behind the last one, and the place behind the line.
@@ -52,7 +52,7 @@ pub(crate) fn read_family(
     let name_at = word_end(Literal { text: b"family" }, b' ', bytes, at)?;
     let versions_at = word_end(names, b' ', bytes, name_at)?;
     let (versions, end) = read_versions(bytes, versions_at)?;
-    let name = FamilyName::of(alloc, &bytes[name_at..versions_at - 1])?;
+    let name = FamilyName::copy_of(alloc, &bytes[name_at..versions_at - 1])?;
     Ok(((name, versions as u32), end))
 }
 

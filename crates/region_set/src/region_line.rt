@@ -5,58 +5,29 @@ ghost use Rattle.hb_row_text.specs.RowText.{row_text};
 ghost use Rattle.commit_line.specs.Line.{field};
 ghost use Rattle.commit_line.specs.ListError.{IsRead};
 ghost use Rattle.region_set.specs.RegionLine.{IsRow, IsRegion, IsRegionBehind, split_word, end_text, region_text};
-ghost use Rattle.region_set.specs.RegionParts.{next_start, least_id, start_bound, bounds_text, AreParts, parts_text, region_of};
+ghost use Rattle.region_set.specs.RegionParts.{least_id, bound_text, bounds_text, AreParts, parts_text, region_of};
 
 use crate::region_parts::{Bounds, read_id, read_rest};
 use commit_line::{ListError, word_end};
 use hb_grammar::Literal;
 use hb_names::TableName;
 use hb_records::RegionInfo;
-use hb_row_text::{next_row, write_row};
+use hb_row_text::{has_next_row, next_row, write_row};
 use hb_wire::{Blob, Copied, NoMemory};
 use std::alloc::Global;
 
-/// The row next to the start of a region, where there is a region and such a row.
-fn next_start(alloc: Global, last: Option<&(RegionInfo, bool)>) -> Result<Option<Blob>, NoMemory>
+/// The least id of a region behind another: that one's where its start has no next row.
+fn least_id(last: Option<&(RegionInfo, bool)>) -> u64
     requires { IfSome (option_copied last) (λ region. IsRow region.0.start) }
-    ensures { IfOk result (λ next. next ≡ next_start (option_copied last.entry)) }
-{
-    match last {
-        None => Ok(None),
-        Some(region) => next_row(alloc, region.0.start.as_slice()),
-    }
-}
-
-/// The least id of a region behind another, whose start has this next row.
-fn least_id(last: Option<&(RegionInfo, bool)>, next: &Option<Blob>) -> u64
-    requires { next.now ≡ next_start (option_copied last) }
     ensures { result ≡ least_id (option_copied last.entry) }
 {
     match last {
         None => 0,
-        Some(region) => match next {
-            None => region.0.id,
-            Some(_) => 0,
-        },
-    }
-}
-
-/// The least start of a region of this id behind another, whose start has this next row.
-fn start_bound<'a>(
-    last: Option<&'a (RegionInfo, bool)>,
-    next: &'a Option<Blob>,
-    id: u64,
-) -> Option<&'a Blob>
-    requires { next.now ≡ next_start (option_copied last) }
-    ensures { option_copied result ≡ start_bound (option_copied last.entry) id }
-{
-    match last {
-        None => None,
         Some(region) => {
-            if id < region.0.id {
-                next.as_ref()
+            if has_next_row(region.0.start.as_slice()) {
+                0
             } else {
-                Some(&region.0.start)
+                region.0.id
             }
         }
     }
@@ -72,6 +43,29 @@ fn text_of(alloc: Global, row: Option<&Blob>) -> Result<Option<Blob>, NoMemory>
             let mut text = Blob::from_vec(Vec::new(alloc));
             write_row(row.as_slice(), &mut text)?;
             Ok(Some(text))
+        }
+    }
+}
+
+/// The text of the least start of a region of this id behind another. The row next to that one's start is made
+/// only where the id is below that one's.
+fn bound_of(
+    alloc: Global,
+    last: Option<&(RegionInfo, bool)>,
+    id: u64,
+) -> Result<Option<Blob>, NoMemory>
+    requires { IfSome (option_copied last) (λ region. IsRow region.0.start) }
+    ensures { IfOk result (λ text. text ≡ bound_text (option_copied last.entry) id) }
+{
+    match last {
+        None => Ok(None),
+        Some(region) => {
+            if id < region.0.id {
+                let next = next_row(alloc, region.0.start.as_slice())?;
+                text_of(alloc, next.as_ref())
+            } else {
+                text_of(alloc, Some(&region.0.start))
+            }
         }
     }
 }
@@ -99,9 +93,8 @@ fn read_parts(
     requires within { at ≤ length bytes.now }
     ensures { IsRead (AreParts (option_copied last.entry)) parts_text bytes.now at result }
 {
-    let next = next_start(alloc, last)?;
-    let (id, rest_at) = read_id(least_id(last, &next), bytes, at)?;
-    let bound = text_of(alloc, start_bound(last, &next, id))?;
+    let (id, rest_at) = read_id(least_id(last), bytes, at)?;
+    let bound = bound_of(alloc, last, id)?;
     let (rest, end) = read_rest(alloc, bytes_of(&bound), bytes, rest_at)?;
     Ok(((id, rest), end))
 }

@@ -4,20 +4,20 @@ ghost use Rattle.std.specs.Prelude.{◌≡◌, ◌≤◌, ℕ, List, length, opt
 ghost use Rattle.hb_grammar.specs.Grammar.{Same};
 ghost use Rattle.hb_grammar.specs.TextOf.{IsTextOf};
 ghost use Rattle.hb_row_text.specs.RowText.{row_text, IsRowText};
-ghost use Rattle.commit_line.specs.ListError.{IsRead};
+ghost use Rattle.commit_line.specs.ListError.{IsRead, IsFound};
 ghost use Rattle.region_set.specs.RegionLine.{IsRow, split_word, end_text};
 ghost use Rattle.region_set.specs.RegionParts.{IsId, id_field, IsSplit, split_field, IsStart, start_field, IsEnd, end_line, AreBounds, bounds_text, IsRest, rest_text};
 
-use commit_line::{ListError, word_end};
+use commit_line::{BadText, ListError, word_end};
 use hb_grammar::{AtLeast, Between, Either, Grammar, Literal, number_of};
 use hb_row_text::{read_row, row_grammar};
 use hb_wire::Blob;
 use std::alloc::Global;
 
 /// The id at a place, from `low` on, and the place behind it and a blank.
-pub(crate) fn read_id(low: u64, bytes: &[u8], at: usize) -> Result<(u64, usize), ListError>
+pub(crate) fn read_id(low: u64, bytes: &[u8], at: usize) -> Result<(u64, usize), BadText>
     requires { at ≤ length bytes.now }
-    ensures { IsRead (IsId low) id_field bytes.now at result }
+    ensures { IsFound (IsId low) id_field bytes.now at result }
 {
     let end = word_end(Between::new(low, u64::MAX), b' ', bytes, at)?;
     Ok((number_of(&bytes[at..end - 1]), end))
@@ -41,9 +41,9 @@ fn is_split(word: &[u8]) -> bool
 }
 
 /// Whether the word at a place tells that a region is split, and the place behind it and a blank.
-fn read_split(bytes: &[u8], at: usize) -> Result<(bool, usize), ListError>
+fn read_split(bytes: &[u8], at: usize) -> Result<(bool, usize), BadText>
     requires { at ≤ length bytes.now }
-    ensures { IsRead IsSplit split_field bytes.now at result }
+    ensures { IsFound IsSplit split_field bytes.now at result }
 {
     let end = word_end(split_grammar(), b' ', bytes, at)?;
     Ok((is_split(&bytes[at..end - 1]), end))

@@ -1,20 +1,22 @@
 //! Region sets of tables.
 
-ghost use Rattle.std.specs.Prelude.{◌≡◌, ◌≤◌, ◌++◌, length, drop, codes, IfOk, IfErr, OnOk, true, false};
+ghost use Rattle.std.specs.Prelude.{◌≡◌, ◌≤◌, ◌++◌, length, drop, codes, IfOk, IfErr, OnOk, Err, IsTrue, ◌↔◌};
 ghost use Rattle.hb_grammar.specs.Grammar.{IsFault};
 ghost use Rattle.commit_line.specs.Line.{ended};
-ghost use Rattle.commit_line.specs.ListError.{IsRefusal, IsRefusalAt};
+ghost use Rattle.commit_line.specs.ListError.{IsFileRefusal, IsRefusalAt};
 ghost use Rattle.region_set.specs.Body.{IsEndRead, IsBodyRead};
 ghost use Rattle.std.specs.List.{flat_map};
 ghost use Rattle.region_set.specs.FamilyLine.{family_text};
 ghost use Rattle.region_set.specs.RegionLine.{region_text};
-ghost use Rattle.region_set.specs.RegionSet.{IsRegionSet, IsSetFile, region_set_text, GivesSet, GivesNumbered, IsNumberedRefusal};
+ghost use Rattle.region_set.specs.RegionSet.{IsRegionSet, IsSetFile, region_set_text, GivesSet};
+ghost use Rattle.commit_line.specs.Numbered.{HasOtherNumber, IsNumberedRefusal};
+ghost use Rattle.commit_line.specs.declared.error.ListError.TheVariants.{BadList};
 
 use crate::family_line::{are_families, read_families, write_family};
 use crate::region_line::write_region;
 use crate::regions::{are_regions, read_regions};
 use crate::set_state::{SetState, read_state};
-use commit_line::{ListError, read_number};
+use commit_line::{BadText, ListError, check_number, read_number};
 use hb_grammar::{Literal, scan};
 use hb_names::{FamilyName, TableName};
 use hb_records::{RegionInfo, TableSchema};
@@ -25,7 +27,7 @@ const MAX: u64 = 9_223_372_036_854_775_807;
 
 /// The region set of a table: its number, the table's state and schema, and its regions in the order of their
 /// starts and ids, each with whether it is split.
-#[derive(Debug, Drop)]
+#[derive(Debug, Drop, PartialEq, Eq)]
 pub struct RegionSet {
     pub number: u64,
     pub state: SetState,
@@ -34,13 +36,13 @@ pub struct RegionSet {
 }
 
 /// Reads the last line, behind which a file ends.
-fn read_end(bytes: &[u8], at: usize) -> Result<(), ListError>
+fn read_end(bytes: &[u8], at: usize) -> Result<(), BadText>
     requires { at ≤ length bytes.now }
     ensures { IsEndRead bytes.now at result }
 {
     match scan(Literal { text: b"end\n" }, &bytes[at..]) {
         Ok(()) => Ok(()),
-        Err(fault) => Err(ListError::BadList((at + fault.0) as u64)),
+        Err(fault) => Err(BadText((at + fault.0) as u64)),
     }
 }
 
@@ -70,9 +72,9 @@ fn read_body(
 /// The set that the bytes of a file are.
 fn set_of(alloc: Global, table: &TableName, bytes: &[u8]) -> Result<RegionSet, ListError>
     ensures found { IfOk result (λ set. IsRegionSet table.now set × (bytes.now ≡ region_set_text set)) }
-    ensures fault { IfErr result (IsRefusal (IsSetFile table.now) bytes.now) }
+    ensures fault { IfErr result (IsFileRefusal (IsSetFile table.now) bytes.now) }
 {
-    let (number, state_at) = read_number(b"set ", true, MAX, bytes, 0)?;
+    let (number, state_at) = read_number(b"set ", 1, MAX, bytes, 0)?;
     let (state, body_at) = read_state(bytes, state_at)?;
     let (families, regions) = read_body(alloc, table, state, bytes, body_at)?;
     let schema = TableSchema {
@@ -96,36 +98,37 @@ impl RegionSet {
         // What is a set's text is read as this set.
         ensures only { (set : RegionSet) → IsRegionSet table.now set → bytes.now ≡ region_set_text set → GivesSet result set }
         // Where it is none's.
-        ensures fault { IfErr result (IsRefusal (IsSetFile table.now) bytes.now) }
+        ensures fault { IfErr result (IsFileRefusal (IsSetFile table.now) bytes.now) }
     {
         set_of(alloc, table, bytes)
     }
 
-    /// The same of a file of this number: where the set has another, the answer is `BadList(0)`.
+    /// The region set of a table and of this number that the bytes of a file are. Where the file begins with
+    /// another number the answer is `BadList(0)`, before any fault of what stands behind.
     pub fn read(
         alloc: Global,
         number: u64,
         table: &TableName,
         bytes: &[u8],
     ) -> Result<RegionSet, ListError>
+        // What is read is this set's text, each byte of it.
         ensures found { IfOk result (λ set. IsRegionSet table.now set × (bytes.now ≡ region_set_text set)) }
         ensures number { IfOk result (λ set. set.number ≡ number) }
-        ensures only { (set : RegionSet) → IsRegionSet table.now set → bytes.now ≡ region_set_text set → GivesNumbered number result set }
-        ensures fault { IfErr result (IsNumberedRefusal table.now number bytes.now) }
+        // What is a set's text, and has the number, is read as this set.
+        ensures only { (set : RegionSet) → IsRegionSet table.now set → bytes.now ≡ region_set_text set → set.number ≡ number → GivesSet result set }
+        // What begins with another number is refused at place 0.
+        ensures other { HasOtherNumber (codes "set ") number bytes.now → result ≡ Err (BadList 0) }
+        // Where it is none's.
+        ensures fault { IfErr result (IsNumberedRefusal (codes "set ") (IsSetFile table.now) number bytes.now) }
     {
-        let set = set_of(alloc, table, bytes)?;
-        if set.number == number {
-            Ok(set)
-        } else {
-            Err(ListError::BadList(0))
-        }
+        check_number(b"set ", number, bytes)?;
+        set_of(alloc, table, bytes)
     }
 
     /// Whether a file can have the set: the numbers are within their limits, families and regions ascend, each
     /// region is of the set's table, and a dropped set has none of them.
     pub fn is_valid(&self) -> bool
-        ensures yes { result ≡ true → IsRegionSet self.now.schema.table self.now }
-        ensures no { result ≡ false → IsRegionSet self.now.schema.table self.now → ⊥ }
+        ensures { IsTrue result ↔ IsRegionSet self.now.schema.table self.now }
     {
         let families = self.schema.families.as_slice();
         let regions = self.regions.as_slice();
@@ -152,6 +155,17 @@ impl RegionSet {
         add_regions(self.regions.as_slice(), &mut text)?;
         text.add(b"end\n")?;
         Ok(text)
+    }
+}
+
+impl Copied for RegionSet {
+    fn copy(&self) -> Result<RegionSet, NoMemory> {
+        Ok(RegionSet {
+            number: self.number,
+            state: self.state,
+            schema: self.schema.copy()?,
+            regions: self.regions.copy()?,
+        })
     }
 }
 

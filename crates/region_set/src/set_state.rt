@@ -1,15 +1,16 @@
 //! States of tables.
 
-ghost use Rattle.std.specs.Prelude.{◌≡◌, ◌≤◌, length, true, false};
+ghost use Rattle.std.specs.Prelude.{◌≡◌, ◌≤◌, length, IsTrue, ◌↔◌};
 ghost use Rattle.hb_grammar.specs.Grammar.{Same};
 ghost use Rattle.hb_grammar.specs.TextOf.{IsTextOf};
 ghost use Rattle.commit_line.specs.Line.{ended};
-ghost use Rattle.commit_line.specs.ListError.{IsRead};
+ghost use Rattle.commit_line.specs.ListError.{IsFound};
 ghost use Rattle.region_set.specs.declared.set_state.SetState.TheVariants.{Dropped};
 ghost use Rattle.region_set.specs.SetState.{IsState, state_word};
 
-use commit_line::{ListError, word_end};
+use commit_line::{BadText, word_end};
 use hb_grammar::{Either, Grammar, Literal};
+use hb_wire::{Copied, NoMemory};
 
 /// The state of a table that a region set tells.
 #[derive(Clone, Copy, Debug, PartialEq, Eq)]
@@ -44,8 +45,7 @@ impl SetState {
 
     /// Whether the table is dropped.
     pub fn is_dropped(self) -> bool
-        ensures yes { result ≡ true → self ≡ Dropped }
-        ensures no { result ≡ false → self ≡ Dropped → ⊥ }
+        ensures { IsTrue result ↔ (self ≡ Dropped) }
     {
         match self {
             SetState::Enabled => false,
@@ -69,10 +69,16 @@ impl SetState {
     }
 }
 
+impl Copied for SetState {
+    fn copy(&self) -> Result<SetState, NoMemory> {
+        Ok(*self)
+    }
+}
+
 /// The state whose word stands at a place, with a line feed behind it, and the place behind that.
-pub(crate) fn read_state(bytes: &[u8], at: usize) -> Result<(SetState, usize), ListError>
+pub(crate) fn read_state(bytes: &[u8], at: usize) -> Result<(SetState, usize), BadText>
     requires { at ≤ length bytes.now }
-    ensures { IsRead IsState (λ state. ended (state_word state)) bytes.now at result }
+    ensures { IsFound IsState (λ state. ended (state_word state)) bytes.now at result }
 {
     let end = word_end(state_grammar(), b'\n', bytes, at)?;
     Ok((SetState::of_word(&bytes[at..end - 1]), end))

@@ -1,8 +1,9 @@
 //! Which bytes are region sets, and where others leave the grammar.
 
-use crate::RegionSet;
+use crate::{RegionSet, SetState};
 use commit_line::ListError;
 use hb_names::TableName;
+use hb_wire::{Blob, Copied};
 use std::alloc::Global;
 use std::test::Fail;
 
@@ -17,16 +18,53 @@ fn place_of(found: Result<RegionSet, ListError>) -> Option<u64> {
     }
 }
 
+/// A set that is read, copied and written.
+fn set_again(alloc: Global, table: &TableName, bytes: &[u8]) -> Result<Blob, Fail> {
+    let set = RegionSet::decode(alloc, table, bytes)?.copy()?;
+    if set.is_valid() {
+        Ok(set.encode(alloc)?)
+    } else {
+        Ok(Blob::copy_of(alloc, b"no valid set")?)
+    }
+}
+
 #[test]
-fn a_set_is_read_and_written(rt: HostRuntime) -> Result<(), Fail> {
+fn sets_are_read_copied_and_written(rt: HostRuntime) -> Result<(), Fail> {
     let alloc: Global = rt.alloc();
     let table = TableName::read(alloc, b"t")?;
+    let sets: [&[u8]; 4] = [
+        b"set 1\ndropped\nend\n",
+        b"set 9223372036854775807\ndisabled\nend\n",
+        b"set 3\nenabled\nregion 18446744073709551615 open - -\nend\n",
+        SET,
+    ];
+    for bytes in sets {
+        assert_eq!(rt; set_again(alloc, &table, bytes)?.as_slice(), bytes);
+    }
     let set = RegionSet::read(alloc, 1, &table, SET)?;
-    assert!(rt; set.is_valid());
     assert_eq!(rt; set.schema.families.len(), 2);
     assert_eq!(rt; set.regions.len(), 2);
-    assert_eq!(rt; set.encode(alloc)?.as_slice(), SET);
-    assert_eq!(rt; place_of(RegionSet::read(alloc, 2, &table, SET)), Some(0));
+    assert!(rt; SetState::Dropped.copy()?.is_dropped());
+    Ok(())
+}
+
+/// The number that is asked for comes before any fault behind it, and behind one in its own line.
+#[test]
+fn another_number_comes_first(rt: HostRuntime) -> Result<(), Fail> {
+    let alloc: Global = rt.alloc();
+    let table = TableName::read(alloc, b"t")?;
+    let files: [(u64, &[u8], u64); 4] = [
+        (2, SET, 0),
+        (2, b"set 1\nenable\nend\n", 0),
+        (1, b"set 1\nenable\nend\n", 12),
+        (2, b"set 01\nenabled\nend\n", 4),
+    ];
+    for (number, bytes, place) in files {
+        assert_eq!(rt;
+            place_of(RegionSet::read(alloc, number, &table, bytes)),
+            Some(place)
+        );
+    }
     Ok(())
 }
 

@@ -6,12 +6,12 @@ use Rattle.commit_line.proofs.line.read_number.Goals as goal
 pub number_between-requires : goal.number_between-requires
 number_between-requires c =
     let fits = c.ranges.max.fits in
-    IsTextOf-wider c.args.text.now c.args.positive c.args.max c.in-Ok.line.now (omega arith) (c.number_grammar.ensures.forth _ c.in-Ok.ensures.front)
+    IsTextOf-wider c.args.text.now c.args.low c.args.max c.in-Ok.line.now (omega arith) (c.number_grammar.ensures.forth _ c.in-Ok.ensures.front)
 
 pub returns-in-Ok : goal.returns-in-Ok
 returns-in-Ok c =
     let fits = c.ranges.max.fits in
-    IsValueAt-number_line c.args.text.now c.args.positive c.args.max c.args.bytes.now c.args.at c.in-Ok.line.now _ c.number_between.result (omega arith) (omega arith) c.requires.within
+    IsValueAt-number_line c.args.text.now c.args.low c.args.max c.args.bytes.now c.args.at c.in-Ok.line.now _ c.number_between.result (omega arith) (omega arith) c.requires.within
     c.in-Ok.ensures.whole (c.number_grammar.ensures.forth _ c.in-Ok.ensures.front) c.number_between.ensures
 
 pub returns-in-Err : goal.returns-in-Err

@@ -1,5 +1,6 @@
 use Rattle.std.proofs.Common.{option_copied}
 use Rattle.std.proofs.lemmas.Result.{err_from_is_err_and}
+use Rattle.commit_line.specs.declared.error.ListError.TheVariants.{BadList}
 use Rattle.region_set.proofs.RegionLineLemmas.{Avoids-line_word, IsFrontRefusal-word, IsFrontRefusal-parts, IsValueAt-region_of}
 use Rattle.region_set.proofs.region_line.read_region.Goals as goal
 
@@ -9,7 +10,7 @@ word_end-requires-clause-avoids c = Avoids-line_word
 pub returns-in_err-parts_at : goal.returns-in_err-parts_at
 returns-in_err-parts_at c =
     let p = err_from_is_err_and c.from_residual.result c.from_residual.ensures.1 in
-    rw (p.1, p.2) (IsFrontRefusal-word c.args.table.now (option_copied c.args.last) c.requires.last c.args.bytes.now c.args.at c.in_err-parts_at.field-0.0
+    rw (p.1, p.2) (IsFrontRefusal-word c.args.table.now (option_copied c.args.last) c.requires.last c.args.bytes.now c.args.at (BadList c.in_err-parts_at.field-0.0.0)
     c.in_err-parts_at.ensures)
 
 pub returns-in_err-parts : goal.returns-in_err-parts

@@ -1,16 +1,21 @@
-use Rattle.std.proofs.Common.{refl, sym, ap, ◌∙◌}
-use Rattle.region_set.specs.declared.region_set.RegionSet.{RegionSet}
-use Rattle.region_set.proofs.SetLemmas.{region_set_text-injective}
+use Rattle.std.proofs.Common.{codes}
+use Rattle.commit_line.proofs.NumberedLemmas.{IfErr-numbered}
+use Rattle.region_set.specs.RegionSet.{IsSetFile}
+use Rattle.region_set.proofs.SetLemmas.{GivesSet-from, number_only-set, number_told-set}
 use Rattle.region_set.proofs.region_set.RegionSet.read.Goals as goal
 
-pub returns-then-set-number-clause-only : goal.returns-then-set-number-clause-only
-returns-then-set-number-clause-only c = λ set ok e.
-    let found = c.in_ok-set.ensures.found in
-    let same = region_set_text-injective c.args.table.now c.in_ok-set.set set found.0 ok (sym found.1 ∙ e) in
-    (same, sym (ap (λ (s : RegionSet). s.number) same) ∙ c.if-set-number.true)
+pub returns-in_err-check_number-clause-only : goal.returns-in_err-check_number-clause-only
+returns-in_err-check_number-clause-only c set ok e same =
+    absurd (number_only-set c.args.table.now c.args.bytes.now c.args.number set ok e same c.in_err-check_number.ensures.0)
 
-pub returns-else-set-number-clause-only : goal.returns-else-set-number-clause-only
-returns-else-set-number-clause-only c = λ set ok e.
-    let found = c.in_ok-set.ensures.found in
-    let same = region_set_text-injective c.args.table.now c.in_ok-set.set set found.0 ok (sym found.1 ∙ e) in
-    (refl, λ number. c.if-set-number.false (ap (λ (s : RegionSet). s.number) same ∙ number))
+pub returns-clause-number : goal.returns-clause-number
+returns-clause-number c =
+    number_told-set c.args.table.now c.args.bytes.now c.args.number c.set_of.result c.in_ok-check_number.ensures c.set_of.ensures.found
+
+pub returns-clause-only : goal.returns-clause-only
+returns-clause-only c set ok e same =
+    GivesSet-from c.args.table.now c.args.bytes.now c.set_of.result c.set_of.ensures.found c.set_of.ensures.fault set ok e
+
+pub returns-clause-fault : goal.returns-clause-fault
+returns-clause-fault c =
+    IfErr-numbered (codes "set ") (IsSetFile c.args.table.now) c.args.number c.args.bytes.now c.set_of.result c.in_ok-check_number.ensures c.set_of.ensures.fault
