@@ -4,8 +4,8 @@ use Rattle.std.proofs.lemmas.Bool.{le-ltb, lt-ltb, ltb-false}
 use Rattle.std.proofs.lemmas.List.{take_at, drop_at, drop-drop, take-append-drop, length-append, length-take-le, length-drop}
 use Rattle.hb_wire.specs.Fixed.{be_bytes, be_number}
 use Rattle.hb_wire.specs.Vlong.{vlong_at}
-use Rattle.hb_wire.specs.declared.vlong.WireError.{WireError}
-use Rattle.hb_wire.specs.declared.vlong.WireError.TheVariants as wire
+use Rattle.hb_wire.specs.declared.fault.WireError.{WireError}
+use Rattle.hb_wire.specs.declared.fault.WireError.TheVariants as wire
 use Rattle.hb_wire.proofs.BigEndian.{IsBytes, IsBytes-drop, IsBytes-take, length-be_bytes, be_number-be_bytes, be_bytes-be_number}
 use Rattle.hb_wire.proofs.Vlongs.{IsVlong, IsVlong-vlong_at, vlong_at-vlong}
 use Rattle.hb_cell.specs.declared.fault.CellError.{CellError}
@@ -44,6 +44,10 @@ IsSeq-seq_from at bytes (Ok x) seq used fits read e =
     subst (λ (k : ℕ). IsSeq true at bytes seq k) (ap (λ (y : Option ℕ × ℕ). y.1) same) (IsSeq-vlong at bytes seq x.1 number)
 IsSeq-seq_from at bytes (Err (wire.Short need)) seq used fits read e = absurd cc
 IsSeq-seq_from at bytes (Err wire.Overlong) seq used fits read e =
+    let same = ok_is (None, at) (Some seq, used) e in
+    let first : None ≡ Some seq = ap (λ (y : Option ℕ × ℕ). y.0) same in
+    absurd cc
+IsSeq-seq_from at bytes (Err (wire.BadWire tag)) seq used fits read e =
     let same = ok_is (None, at) (Some seq, used) e in
     let first : None ≡ Some seq = ap (λ (y : Option ℕ × ℕ). y.0) same in
     absurd cc

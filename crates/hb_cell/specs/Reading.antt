@@ -2,8 +2,8 @@
 use Rattle.std.specs.Prelude.{◌≡◌, ℕ, ◌+◌, ◌-◌, ◌^◌, ℤ, pos, negsuc, Bool, true, false, ◌==◌, ◌||◌, nat_lt, nat_le, if◌then◌else◌, List, [], ◌∷◌, length, take, drop, slice_index, Option, Some, None, Result, Ok, Err}
 use Rattle.hb_wire.specs.Fixed.{be_number}
 use Rattle.hb_wire.specs.Vlong.{vlong_at}
-use Rattle.hb_wire.specs.declared.vlong.WireError.{WireError}
-use Rattle.hb_wire.specs.declared.vlong.WireError.TheVariants as wire
+use Rattle.hb_wire.specs.declared.fault.WireError.{WireError}
+use Rattle.hb_wire.specs.declared.fault.WireError.TheVariants as wire
 use Rattle.hb_cell.specs.declared.kind.Kind.{Kind}
 use Rattle.hb_cell.specs.declared.cell.Cell.{Cell}
 use Rattle.hb_cell.specs.declared.fault.CellError.{CellError}
@@ -35,7 +35,9 @@ natural (negsuc m) = None
 abbrev pub seq_from : ℕ → Result (ℤ × ℕ) WireError → Result (Option ℕ × ℕ) CellError
 seq_from at (Ok x) = Ok (natural x.0, at + x.1)
 seq_from at (Err (wire.Short need)) = Err (errors.Short need)
-seq_from at (Err e) = Ok (None, at)
+seq_from at (Err wire.Overlong) = Ok (None, at)
+seq_from at (Err (wire.BadWire tag)) = Ok (None, at)
+seq_from at (Err wire.NoMemory) = Ok (None, at)
 
 unfoldable pub seq_at : Bool → ℕ → List ℕ → Result (Option ℕ × ℕ) CellError
 seq_at true at bytes = seq_from at (vlong_at bytes)

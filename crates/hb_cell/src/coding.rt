@@ -51,7 +51,7 @@ fn seq_at(bytes: &[u8], at: usize, with_seq: bool) -> Result<(Option<u64>, usize
         Ok((seq, used)) if seq < 0 => Ok((None, at + used)),
         Ok((seq, used)) => Ok((Some(seq as u64), at + used)),
         Err(WireError::Short(need)) => Err(CellError::Short(need)),
-        Err(_) => Ok((None, at)),
+        Err(WireError::Overlong | WireError::BadWire(_) | WireError::NoMemory) => Ok((None, at)),
     }
 }
 
