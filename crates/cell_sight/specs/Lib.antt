@@ -1,0 +1,4 @@
+pub mod Member
+pub mod Same
+pub mod Visible
+pub mod VisibleLaws
