@@ -1,0 +1,10 @@
+pub mod HeadLemmas
+pub mod InputLemmas
+pub mod Places
+pub mod Streaming
+pub mod Winners
+pub mod Marks
+pub mod Puts
+pub mod PutSteps
+pub mod Apart
+pub mod Runs
