@@ -1,0 +1,4 @@
+pub mod FieldLaws
+pub mod Low
+pub mod Messages
+pub mod Varints
