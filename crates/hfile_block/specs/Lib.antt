@@ -1,1 +1,2 @@
 pub mod CellBlock
+pub mod Header

@@ -1,0 +1,14 @@
+//! What an HFile says of itself: its trailer, read and written.
+#![tactic(auto)]
+
+pub mod fault;
+pub mod frame;
+pub mod trailer;
+pub mod written;
+
+pub use fault::MetaError;
+pub use trailer::{TRAILER_LEN, Trailer, read_trailer};
+pub use written::write_trailer;
+
+#[cfg(test)]
+mod tests;

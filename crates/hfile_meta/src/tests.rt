@@ -1,0 +1,173 @@
+use super::*;
+use hb_wire::{Blob, NoMemory};
+use std::alloc::Global;
+use std::test::Fail;
+use wire_fields::{put_bytes_field, put_varint, put_varint_field};
+
+/// What a trailer of the test tells: its fields by number, the last of one counts.
+const FIELDS: [(u32, u64); 12] = [
+    (1, 152),
+    (2, 58),
+    (3, 61),
+    (4, 25),
+    (5, 9),
+    (5, 1),
+    (7, 1),
+    (8, 1),
+    (9, 0),
+    (10, 7),
+    (12, 2),
+    (100, 5),
+];
+
+/// Adds a field with a number that a field can have.
+fn add_field(out: &mut Blob, number: u32, value: u64) -> Result<(), NoMemory> {
+    if 1 <= number && number < 0x2000_0000 {
+        put_varint_field(out, number, value)
+    } else {
+        Ok(())
+    }
+}
+
+/// The bytes of a trailer behind some others, with a field more, or without one.
+fn trailer(alloc: Global, more: (u32, u64), less: u32) -> Result<Blob, NoMemory> {
+    let mut message = Blob::copy_of(alloc, b"")?;
+    for (number, value) in FIELDS {
+        if number != less {
+            add_field(&mut message, number, value)?;
+        }
+    }
+    put_bytes_field(
+        &mut message,
+        11,
+        b"org.apache.hadoop.hbase.CellComparatorImpl",
+    )?;
+    add_field(&mut message, more.0, more.1)?;
+    let mut out = Blob::copy_of(alloc, b"some blocksTRABLK\"$")?;
+    put_varint(&mut out, message.len() as u64)?;
+    out.add(message.as_slice())?;
+    out.add(&[0; 200])?;
+    out.truncate(219);
+    out.add(&[3, 0, 0, 2])?;
+    Ok(out)
+}
+
+#[test]
+fn reads_trailers(rt: HostRuntime) -> Result<(), Fail> {
+    let bytes = trailer(rt.alloc(), (13, 0), 0)?;
+    let told = Trailer {
+        info_at: 152,
+        load_at: 58,
+        index_bytes: 61,
+        total_bytes: 25,
+        data_count: 1,
+        meta_count: 0,
+        entries: 1,
+        levels: 1,
+        first: 0,
+        last: 7,
+        compression: 2,
+    };
+    assert_eq!(rt; read_trailer(bytes.as_slice()), Ok(told));
+    let mut out = Blob::copy_of(rt.alloc(), b"x")?;
+    write_trailer(&mut out, &told)?;
+    assert_eq!(rt; out.len(), 213);
+    assert_eq!(rt; read_trailer(out.as_slice()), Ok(told));
+    assert_eq!(rt; &out.as_slice()[209..], [3, 0, 0, 2].as_slice());
+    let greatest = Trailer {
+        info_at: u64::MAX,
+        load_at: u64::MAX,
+        entries: u64::MAX,
+        ..told
+    };
+    let mut out = Blob::copy_of(rt.alloc(), b"")?;
+    write_trailer(&mut out, &greatest)?;
+    assert_eq!(rt; read_trailer(out.as_slice()), Ok(greatest));
+    let bytes = trailer(rt.alloc(), (6, u64::MAX), 12)?;
+    let meta_count = u64::MAX;
+    assert_eq!(rt;
+        read_trailer(bytes.as_slice()),
+        Ok(Trailer { meta_count, ..told })
+    );
+    Ok(())
+}
+
+/// A field more, one less, and the fault.
+const FAULTS: [(u32, u64, u32, MetaError); 9] = [
+    (12, 1, 0, MetaError::Compressed(1)),
+    (12, u32::MAX as u64, 0, MetaError::Compressed(u32::MAX)),
+    (12, 1 << 32, 0, MetaError::BadTrailer(11)),
+    (12, 1, 8, MetaError::BadTrailer(11)),
+    (13, 0, 1, MetaError::BadTrailer(11)),
+    (13, 0, 2, MetaError::BadTrailer(11)),
+    (13, 0, 5, MetaError::BadTrailer(11)),
+    (13, 0, 7, MetaError::BadTrailer(11)),
+    (13, 0, 8, MetaError::BadTrailer(11)),
+];
+
+#[test]
+fn refuses_fields(rt: HostRuntime) -> Result<(), Fail> {
+    for (number, value, less, fault) in FAULTS {
+        let bytes = trailer(rt.alloc(), (number, value), less)?;
+        assert_eq!(rt; read_trailer(bytes.as_slice()), Err(fault));
+    }
+    Ok(())
+}
+
+/// A place of the file of 223 bytes, the byte that is put there, and the fault.
+const BYTES: [(usize, u8, MetaError); 8] = [
+    (222, 3, MetaError::Version(3)),
+    (220, 3, MetaError::Version(196_610)),
+    (219, 1, MetaError::BadTrailer(11)),
+    (219, 4, MetaError::BadTrailer(11)),
+    (11, b't', MetaError::BadTrailer(11)),
+    (218, 1, MetaError::BadTrailer(11)),
+    (19, 255, MetaError::BadTrailer(11)),
+    (20, 0x0b, MetaError::BadTrailer(11)),
+];
+
+#[test]
+fn refuses_bytes(rt: HostRuntime) -> Result<(), Fail> {
+    for (place, byte, fault) in BYTES {
+        let mut bytes = trailer(rt.alloc(), (13, 0), 0)?.into_vec();
+        assert!(rt; place < bytes.len());
+        bytes[place] = byte;
+        assert_eq!(rt; read_trailer(bytes.as_slice()), Err(fault));
+    }
+    let mut bytes = trailer(rt.alloc(), (13, 0), 0)?;
+    assert_eq!(rt; bytes.len(), 223);
+    for (len, fault) in [
+        (222, MetaError::Version(196_608)),
+        (211, MetaError::BadTrailer(211)),
+        (0, MetaError::BadTrailer(0)),
+    ] {
+        bytes.truncate(len);
+        assert_eq!(rt; read_trailer(bytes.as_slice()), Err(fault));
+    }
+    Ok(())
+}
+
+/// The faults and how they are printed.
+const PRINTED: [(MetaError, &str); 6] = [
+    (
+        MetaError::BadTrailer(5),
+        "the trailer at 5 is not in its form",
+    ),
+    (MetaError::Version(3), "version 3 is not read"),
+    (
+        MetaError::Compressed(1),
+        "the blocks are compressed by method 1",
+    ),
+    (MetaError::BadInfo(7), "the file info at 7 is wrong"),
+    (MetaError::Encoded, "the data blocks are encoded"),
+    (MetaError::NoMemory, "no memory was left"),
+];
+
+#[test]
+fn prints_faults(rt: HostRuntime) -> Result<(), Fail> {
+    for (fault, text) in PRINTED {
+        let printed = format!(in rt.alloc(); "{fault}")?;
+        assert_eq!(rt; printed.as_str(), text);
+    }
+    Ok(())
+}
