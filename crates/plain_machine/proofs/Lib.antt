@@ -1,0 +1,4 @@
+pub mod Walks
+pub mod Parts
+pub mod Entries
+pub mod Numbers
