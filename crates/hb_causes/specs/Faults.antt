@@ -1,10 +1,14 @@
 -- How a count of faults moves.
 use Rattle.std.specs.Prelude.{ℕ, ◌+◌, ◌-◌, ◌^◌, ◌≤◌, min}
 
--- the count rose, or stands at the last value of its type
-abbrev pub Rose : ℕ → ℕ → Type 0
-Rose before now = min (before + 1) (2 ^ 64 - 1) ≤ now
+-- the last value of a count, at which it stays
+abbrev pub last_count : ℕ
+last_count = 2 ^ 64 - 1
 
--- one more, up to the last value of its type
+-- the count rose, or stands at its last value
+abbrev pub Rose : ℕ → ℕ → Type 0
+Rose before now = min (before + 1) last_count ≤ now
+
+-- one more, up to the last value
 abbrev pub next : ℕ → ℕ
-next n = min (n + 1) (2 ^ 64 - 1)
+next n = min (n + 1) last_count

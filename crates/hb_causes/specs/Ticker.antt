@@ -1,5 +1,6 @@
 -- A clock that ticks, or asks another clock.
-use Rattle.std.specs.Prelude.{ℕ, ◌-◌, ◌*◌, ◌^◌, min, List, [], ◌∷◌, ◌++◌, Option, Some, None}
+use Rattle.std.specs.Prelude.{ℕ, ◌*◌, min, List, [], ◌∷◌, ◌++◌, Option, Some, None}
+use Rattle.hb_causes.specs.Faults.{last_count}
 
 -- the clock to ask, the length of a tick if there is one, and the moments that it gave by ticks
 pub record TickerState (C : Type 0) : Type 0 where
@@ -9,7 +10,7 @@ pub record TickerState (C : Type 0) : Type 0 where
 
 -- the moment of the call with this number, counted from 1, up to the last value of its type
 abbrev pub tick_at : ℕ → ℕ → ℕ
-tick_at tick number = min (number * tick) (2 ^ 64 - 1)
+tick_at tick number = min (number * tick) last_count
 
 -- the moments that it tells: its own with a tick, and else those of the clock that it asks
 abbrev pub told_moments : Option ℕ → List ℕ → Option (List ℕ) → Option (List ℕ)

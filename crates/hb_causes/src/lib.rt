@@ -56,7 +56,7 @@ mod tests {
         let (told, sent) = thread::join(
             &rt,
             move || clock.into_inner().now(),
-            move || StdSink::new(rt).faults() + StdSource::new(rt).faults(),
+            move || StdSink::new(rt).faults() + StdSource::new(&rt).faults(),
         );
         assert_eq!(rt; (told, sent), (0, 0));
         Ok(())

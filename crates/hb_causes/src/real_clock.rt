@@ -47,6 +47,41 @@ impl<R: rt::Clock> Clock for RealClock<R> {
 #[cfg(test)]
 mod tests {
     use super::*;
+    use std::io;
+    use std::io::ErrorKind;
+    use std::time::Duration;
+
+    // A system whose clock stands at a moment, or cannot be read.
+    #[derive(Drop)]
+    struct System {
+        stands_at: Option<Duration>,
+    }
+
+    impl rt::Clock for System {
+        fn monotonic(&self) -> io::Result<Duration> {
+            Ok(Duration::from_secs(1))
+        }
+
+        fn since_1970(&self) -> io::Result<Duration> {
+            match self.stands_at {
+                Some(moment) => Ok(moment),
+                None => Err(ErrorKind::Other.into()),
+            }
+        }
+    }
+
+    #[test]
+    fn gives_whole_milliseconds(rt: HostRuntime) {
+        let moments = [
+            (Some(Duration::from_nanos(1_999_999)), 1),
+            (Some(Duration::new(86_400, 5_000_000)), 86_400_005),
+            (None, 0),
+        ];
+        for (stands_at, milliseconds) in moments {
+            let mut clock = RealClock::new(System { stands_at });
+            assert_eq!(rt; clock.now(), milliseconds);
+        }
+    }
 
     // After September 2020, and before the year 2286.
     #[test]

@@ -17,8 +17,9 @@ pub struct Ticker<C> {
 }
 
 impl<C> Model for Ticker<C> {
-    ghost use Rattle.std.specs.Prelude.{◌≡◌, ◌-◌, ◌^◌, min, length};
+    ghost use Rattle.std.specs.Prelude.{◌≡◌, min, length};
     ghost use Rattle.std.specs.Coded.{codes};
+    ghost use Rattle.hb_causes.specs.Faults.{last_count};
     ghost use Rattle.hb_causes.specs.Ticker.{TickerState};
 
     ghost Value = { TickerState C };
@@ -27,7 +28,7 @@ impl<C> Model for Ticker<C> {
 
     ghost view = { λ t. record { inner = t.inner; tick = t.tick; given = t.given } };
 
-    ghost invariant = { λ t. t.calls ≡ min (length t.given) (2 ^ 64 - 1) };
+    ghost invariant = { λ t. t.calls ≡ min (length t.given) last_count };
 }
 
 impl<C> Ticker<C> {
