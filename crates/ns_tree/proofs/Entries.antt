@@ -1,5 +1,5 @@
 -- The entries of a sorted map as a tree.
-use Rattle.std.proofs.Common.{◌≡◌, ℕ, List, [], ◌∷◌, ◌++◌, Some, None, Bool, true, false, ◌&&◌, ◌||◌, T, cond, nat_eq, refl, sym, ap, subst, ◌∙◌, nat_cmp, codes}
+use Rattle.std.proofs.Common.{◌≡◌, ℕ, List, [], ◌∷◌, ◌++◌, Some, None, Bool, true, false, ◌&&◌, ◌||◌, T, cond, nat_eq, refl, sym, ap, subst, ◌∙◌, nat_cmp, codes, option_map, Result, Ok, Err, OnErr}
 use Rattle.std.specs.FinMap.{get, insert, remove, get-insert, get-remove, find, from_entries, from_sorted, entries, keys, contains_key, contains_key-keys, is_sorted, same_map, get-from_entries, get-from_sorted, entries-from_sorted, nat_cmp-IsAntisymmetric, slice_cmp-IsAntisymmetric}
 use Rattle.std.specs.FinMap.Entries.{below_all}
 use Rattle.std.specs.List.{filter, list_any, AllByRecursion}
@@ -9,13 +9,15 @@ use Rattle.std.specs.declared.cmp.Ordering.TheVariants.{Less}
 use Rattle.std.specs.declared.ops.Bound.TheVariants.{Included, Unbounded}
 use Rattle.std.specs.Cmp.Lexicographic.{slice_cmp, pointwise, texts_ties, nat_list_cmp_total}
 use Rattle.std.specs.Cmp.{eq_by_cmp_equiv}
-use Rattle.std.specs.Map.{lookup, keys_of}
+use Rattle.std.specs.Map.{lookup, keys_of, set_value}
+use Rattle.std.proofs.lemmas.Map.Steps.{set_value_same}
 use Rattle.std.specs.BTreeMap.{is_at}
 use Rattle.std.specs.BTreeMap.Range.{entries_between}
 use Rattle.std.proofs.lemmas.Bool.{and_from}
 use Rattle.std.proofs.lemmas.Map.Keys.{sorted_head, sorted_tail}
 use Rattle.ns_tree.specs.declared.file.FileState.{FileState}
 use Rattle.ns_tree.specs.Places.{is_below}
+use Rattle.ns_tree.specs.Step.{put_if_some}
 use Rattle.ns_tree.specs.Tree.{listing, is_taken}
 use Rattle.ns_tree.proofs.Below.{leading, filter-leading, first_passes, list_any-first}
 
@@ -113,3 +115,25 @@ pub remove_from_entries : (es fs : Files) (p : List ℕ) → ((q : List ℕ) →
 remove_from_entries es fs p h = same_map nat_list_cmp_total (slice_cmp-IsAntisymmetric nat_cmp-IsAntisymmetric) _ _ (λ q.
     get_file fs q ∙ h q ∙ ap (λ b. cond b None (lookup (is_at (slice_cmp nat_cmp q)) es)) ((eq_by_cmp_equiv nat_list_cmp_total).symm p q)
     ∙ sym (get-remove nat_list_cmp_total (from_entries es) p q ∙ ap (cond (is_at (slice_cmp nat_cmp q) p) None) (get_file es q)))
+
+-- entries that differ at one place, where the file is changed, make trees that do
+pub change_from_entries : (change : FileState → FileState) (es fs : Files) (p : List ℕ) (f g : FileState) → g ≡ change f → lookup (is_at (slice_cmp nat_cmp p)) es ≡ Some f
+    → ((q : List ℕ) → lookup (is_at (slice_cmp nat_cmp q)) fs ≡ cond (is_at (slice_cmp nat_cmp p) q) (Some g) (lookup (is_at (slice_cmp nat_cmp q)) es))
+    → from_entries {R = slice_cmp nat_cmp} fs ≡ put_if_some (option_map change (get (from_entries {R = slice_cmp nat_cmp} es) p)) p (from_entries {R = slice_cmp nat_cmp} es)
+change_from_entries change es fs p f g changed stands set =
+    insert_from_entries es fs p g set ∙ ap (insert (from_entries {R = slice_cmp nat_cmp} es) p) changed
+    ∙ sym (ap (λ o. put_if_some (option_map change o) p (from_entries {R = slice_cmp nat_cmp} es)) (get_file es p ∙ stands))
+
+-- a file that is written back as it was leaves the entries
+pub same_entries : (es fs : Files) (p : List ℕ) (f g : FileState) → g ≡ f → lookup (is_at (slice_cmp nat_cmp p)) es ≡ Some f → fs ≡ set_value (is_at (slice_cmp nat_cmp p)) es g → fs ≡ es
+same_entries es fs p f g same stands set = set ∙ ap (set_value (is_at (slice_cmp nat_cmp p)) es) same ∙ set_value_same (is_at (slice_cmp nat_cmp p)) es f stands
+
+-- a fact holds after an error too
+pub OnErr-from : {X E : Type 0} (r : Result X E) (P : Type 0) → P → OnErr r P
+OnErr-from (Ok x) P p = tt
+OnErr-from (Err e) P p = p
+
+-- where none stands there is none to change
+pub change_from_none : (change : FileState → FileState) (es : Files) (p : List ℕ) → lookup (is_at (slice_cmp nat_cmp p)) es ≡ None
+    → from_entries {R = slice_cmp nat_cmp} es ≡ put_if_some (option_map change (get (from_entries {R = slice_cmp nat_cmp} es) p)) p (from_entries {R = slice_cmp nat_cmp} es)
+change_from_none change es p none = sym (ap (λ o. put_if_some (option_map change o) p (from_entries {R = slice_cmp nat_cmp} es)) (get_file es p ∙ none))

@@ -4,6 +4,7 @@ pub mod Entries
 pub mod Laws
 pub mod Leads
 pub mod Moved
+pub mod Pieces
 pub mod PlaceTexts
 pub mod Renaming
 pub mod Trees

@@ -1,6 +1,6 @@
 -- The files of a tree, and what every tree keeps.
-use Rattle.std.proofs.Common.{◌≡◌, ℕ, List, [], ◌∷◌, ◌++◌, Bool, true, false, ◌||◌, ◌&&◌, not, cond, Option, Some, None, refl, ap, sym, subst, inl, inr, ◌∙◌, is_some, nat_cmp, codes, length, take, get_or, ◌<◌, ◌≤◌, ◌+◌, arith}
-use Rattle.std.specs.FinMap.{empty, get, get-empty, insert, get-insert, remove, get-remove, keys, contains_key, contains_key-keys, from_entries, nat_cmp-IsAntisymmetric, slice_cmp-IsAntisymmetric}
+use Rattle.std.proofs.Common.{◌≡◌, ℕ, List, [], ◌∷◌, ◌++◌, Bool, true, false, ◌||◌, ◌&&◌, not, cond, Option, Some, None, refl, ap, sym, subst, inl, inr, ◌∙◌, is_some, nat_cmp, codes, length, take, get_or, ◌<◌, ◌≤◌, ◌+◌, arith, option_map}
+use Rattle.std.specs.FinMap.{empty, get, get-empty, insert, get-insert, remove, get-remove, same_map, keys, contains_key, contains_key-keys, from_entries, nat_cmp-IsAntisymmetric, slice_cmp-IsAntisymmetric}
 use Rattle.std.specs.List.{list_any}
 use Rattle.std.specs.List.Sorted.{IsStrictlySortedBy}
 use Rattle.std.specs.Map.{keys_of}
@@ -9,13 +9,14 @@ use Rattle.std.specs.Cmp.{Equal-is}
 use Rattle.std.specs.Cmp.Lexicographic.{slice_cmp, texts_ties, nat_list_eq_equiv, nat_list_cmp_total}
 use Rattle.std.specs.Ordering.{eq_by_cmp}
 use Rattle.std.specs.declared.ops.Bound.TheVariants.{Included, Unbounded}
-use Rattle.std.proofs.lemmas.Bool.{true≢false, cases_Bool, cases_lt, or_left, or_right, or_from, or_cases, and_parts, false_from_ne_true}
+use Rattle.std.proofs.lemmas.Bool.{true≢false, cases_Bool, cases_lt, or_left, or_right, or_from, or_cases, and_parts, false_from_ne_true, cond-true, cond-false}
 use Rattle.ns_tree.specs.declared.file.FileState.{FileState}
 use Rattle.ns_tree.specs.declared.namespace.NsError.TheVariants.{Exists, BelowFile}
 use Rattle.hb_names.specs.Place.{IsPlace}
 use Rattle.std.proofs.lemmas.List.Folds.{list_any-append}
 use Rattle.std.proofs.lemmas.Map.Views.{any-filter_same}
 use Rattle.ns_tree.specs.Places.{is_below, is_within}
+use Rattle.ns_tree.specs.Step.{put_if_some}
 use Rattle.ns_tree.specs.Tree.{Tree, HasNoFileBelowAFile, HasPlaces, IsTree, listing, is_taken, is_below_file, create_refusal}
 use Rattle.ns_tree.proofs.Below.{first_passes, is_below-take, is_below-same, IsFront-is_below}
 use Rattle.ns_tree.proofs.Entries.{Files, is_taken-first}
@@ -212,3 +213,27 @@ IsTree-remove tree place old = record {
   apart = HasNoFileBelowAFile-remove tree place old.apart;
   placed = λ q stands. old.placed q (and_parts (not (eq_by_cmp (slice_cmp nat_cmp) q place)) (contains_key tree q) (sym (contains_key-remove tree place q) ∙ stands)).1;
 }
+
+none_from_absent : (o : Option FileState) → is_some o ≡ false → o ≡ None
+none_from_absent None e = refl
+none_from_absent (Some file) e = absurd (true≢false e)
+
+-- where no file stands, none is taken away
+pub remove_absent : (tree : Tree) (place : List ℕ) → contains_key tree place ≡ false → remove tree place ≡ tree
+remove_absent tree place absent = same_map nat_list_cmp_total (slice_cmp-IsAntisymmetric nat_cmp-IsAntisymmetric) _ _ (λ q.
+    get-remove nat_list_cmp_total tree place q ∙ elim (cases_Bool (eq_by_cmp (slice_cmp nat_cmp) q place)) as (λ _. cond (eq_by_cmp (slice_cmp nat_cmp) q place) None (get tree q) ≡ get tree q) [
+      | inl here ↦ cond-true _ _ _ here ∙ sym (ap (get tree) (same_text q place here) ∙ none_from_absent _ absent)
+      | inr there ↦ cond-false _ _ _ there
+    ])
+
+-- and none is changed
+pub change-absent : (change : FileState → FileState) (tree : Tree) (place : List ℕ) → contains_key tree place ≡ false → put_if_some (option_map change (get tree place)) place tree ≡ tree
+change-absent change tree place absent = ap (λ o. put_if_some (option_map change o) place tree) (none_from_absent _ absent)
+
+-- a file that is changed where it stands
+pub IsTree-change : (change : FileState → FileState) (tree : Tree) (place : List ℕ) → IsTree tree → IsTree (put_if_some (option_map change (get tree place)) place tree)
+IsTree-change change tree place old = by (get tree place) refl
+  where
+    by : (o : Option FileState) → get tree place ≡ o → IsTree (put_if_some (option_map change o) place tree)
+    by None e = old
+    by (Some file) e = IsTree-replace tree place (change file) (ap is_some e) old

@@ -1,5 +1,6 @@
 pub mod Apart
 pub mod Coded
+pub mod FileBytes
 pub mod MemStore
 pub mod Moves
 pub mod Namespace

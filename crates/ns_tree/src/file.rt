@@ -1,18 +1,18 @@
 //! What a store keeps at a place.
-use bytes::Bytes;
+use crate::file_bytes::FileBytes;
 use hb_wire::{Copied, NoMemory};
 
 /// A file: its bytes, and its moment in milliseconds.
 #[derive(Drop)]
 pub struct FileState {
-    pub bytes: Bytes,
+    pub bytes: FileBytes,
     pub moment: u64,
 }
 
 impl Copied for FileState {
     fn copy(&self) -> Result<FileState, NoMemory> {
         Ok(FileState {
-            bytes: self.bytes.clone()?,
+            bytes: self.bytes.copy()?,
             moment: self.moment,
         })
     }

@@ -1,7 +1,10 @@
 //! The map from places' texts to files.
 ghost use Rattle.std.specs.Prelude.{◌≡◌, ◌++◌, IfOk, OnOk, OnErr, Some, codes, option_copied};
 ghost use Rattle.std.specs.FinMap as map;
+ghost use Rattle.std.specs.Ordering.{nat_cmp};
+ghost use Rattle.std.specs.Cmp.Lexicographic.{slice_cmp};
 ghost use Rattle.hb_names.specs.Place.{IsPlace};
+ghost use Rattle.ns_tree.specs.Step.{Append, Touch, step};
 ghost use Rattle.ns_tree.specs.Tree.{listing, is_taken, is_below_file, HasPlaces};
 
 use crate::file::FileState;
@@ -67,11 +70,29 @@ impl Files {
         }
     }
 
-    /// Takes the file at a text away, if one is there.
-    pub(crate) fn take(&mut self, text: &Blob)
-        ensures { self.new ≡ map.remove self.old text.now }
+    /// Takes the file at a text away, and says whether one was there.
+    pub(crate) fn take(&mut self, text: &Blob) -> bool
+        ensures taken { self.new ≡ map.remove self.old text.now }
+        ensures found { result ≡ map.contains_key self.old text.now }
     {
-        self.files.remove(text);
+        self.files.remove(text).is_some()
+    }
+
+    /// Sets the moment of the file at a text, and says whether one is there. It takes no memory.
+    pub(crate) fn set_moment(&mut self, text: &Blob, moment: u64) -> bool
+        ensures set { self.new ≡ step (Touch text.now moment) self.old }
+        ensures found { result ≡ map.contains_key self.old text.now }
+    {
+        set_moment(&mut self.files, text, moment)
+    }
+
+    /// Adds bytes at the end of the file at a text, and says whether one is there.
+    pub(crate) fn add_bytes(&mut self, text: &Blob, bytes: &[u8]) -> Result<bool, NoMemory>
+        ensures set { OnOk result (self.new ≡ step (Append text.now bytes.now) self.old) }
+        ensures found { IfOk result (λ found. found ≡ map.contains_key self.old text.now) }
+        ensures err { OnErr result (self.new ≡ self.old) }
+    {
+        add_bytes(&mut self.files, self.alloc, text, bytes)
     }
 
     pub(crate) fn allocator(&self) -> Global {
@@ -96,19 +117,22 @@ impl Files {
         ensures { IfOk result (λ below. below ≡ is_below_file place.now self.now) }
     {
         let text = place.as_slice();
+        let mut front = Blob::from_vec(Vec::new(self.alloc));
         for (i, byte) in text.iter().enumerate() {
-            if *byte == b'/' && self.is_file(&text[..i])? {
+            if *byte == b'/' && self.is_file(&mut front, &text[..i])? {
                 return Ok(true);
             }
         }
         Ok(false)
     }
 
-    fn is_file(&self, text: &[u8]) -> Result<bool, NoMemory>
+    // Whether a file stands at a text, for which `key` lends its memory.
+    fn is_file(&self, key: &mut Blob, text: &[u8]) -> Result<bool, NoMemory>
         ensures { IfOk result (λ is_file. is_file ≡ map.contains_key self.now text.now) }
     {
-        let text = Blob::copy_of(self.alloc, text)?;
-        Ok(self.has(&text))
+        key.truncate(0);
+        key.add(text)?;
+        Ok(self.has(key))
     }
 
     pub(crate) fn places(&self) -> Result<Items<Place>, NoMemory>
@@ -137,6 +161,40 @@ impl Files {
     }
 }
 
+// Sets the moment of the file at a text, and says whether one is there.
+fn set_moment(files: &mut BTreeMap<Blob, FileState>, text: &Blob, moment: u64) -> bool
+    ensures set { map.from_entries files.new.entries ≡ step (Touch text.now moment) (map.from_entries files.old.entries) }
+    ensures found { result ≡ map.contains_key {R = slice_cmp nat_cmp} (map.from_entries files.old.entries) text.now }
+{
+    match files.get_mut(text) {
+        Some(file) => {
+            file.moment = moment;
+            true
+        }
+        None => false,
+    }
+}
+
+// Adds bytes at the end of the file at a text, and says whether one is there.
+fn add_bytes(
+    files: &mut BTreeMap<Blob, FileState>,
+    alloc: Global,
+    text: &Blob,
+    bytes: &[u8],
+) -> Result<bool, NoMemory>
+    ensures set { OnOk result (map.from_entries files.new.entries ≡ step (Append text.now bytes.now) (map.from_entries files.old.entries)) }
+    ensures found { IfOk result (λ found. found ≡ map.contains_key {R = slice_cmp nat_cmp} (map.from_entries files.old.entries) text.now) }
+    ensures err { OnErr result (map.from_entries {R = slice_cmp nat_cmp} files.new.entries ≡ map.from_entries files.old.entries) }
+{
+    match files.get_mut(text) {
+        Some(file) => {
+            file.bytes.add(alloc, bytes)?;
+            Ok(true)
+        }
+        None => Ok(false),
+    }
+}
+
 // The text before which no place below a directory stands.
 fn first_below(alloc: Global, dir: &Place) -> Result<Blob, NoMemory>
     ensures { IfOk result (λ first. first ≡ dir.now ++ codes "/") }
@@ -151,5 +209,5 @@ fn place_of(text: &Blob) -> Result<Place, NoMemory>
     requires { IsPlace text.now }
     ensures { IfOk result (λ place. place ≡ text.now) }
 {
-    Ok(Place::of(text.copy()?))
+    Ok(Place::from_blob(text.copy()?))
 }

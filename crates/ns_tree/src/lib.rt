@@ -5,6 +5,7 @@
 #![tactic(auto)]
 
 pub mod file;
+pub mod file_bytes;
 mod files;
 pub mod mem;
 mod moves;
@@ -13,6 +14,7 @@ mod places;
 pub mod tree;
 
 pub use file::{FileState, Stat};
+pub use file_bytes::FileBytes;
 pub use mem::MemNs;
 pub use namespace::{Namespace, NsError};
 pub use tree::Tree;

@@ -1,10 +1,10 @@
 //! A store in memory.
-ghost use Rattle.std.specs.Prelude.{◌≡◌, ◌≤◌, ◌⊎◌, ◌↔◌, Some, None, false, IfOk, OnOk, IfErr, IsErrOf, IsSome, IsTrue, length, option_copied, option_map};
+ghost use Rattle.std.specs.Prelude.{◌≡◌, ◌≤◌, ◌⊎◌, ◌↔◌, Some, None, false, true, IfOk, OnOk, IfErr, IsErrOf, IsSome, IsTrue, length, option_copied, option_map};
 ghost use Rattle.std.specs.FinMap as map;
 ghost use Rattle.ns_tree.specs.MemStore.{is_failing_read, after_read, write_fate, after_write};
 ghost use Rattle.ns_tree.specs.Namespace.{IsDone, IsRefused, is_create_error, is_change_error, bytes_at, stat_of};
-ghost use Rattle.ns_tree.specs.Step.{Create, Append, Rename, Delete, Touch};
-ghost use Rattle.ns_tree.specs.Tree.{listing};
+ghost use Rattle.ns_tree.specs.Step.{Create, Append, Rename, Delete, Touch, step};
+ghost use Rattle.ns_tree.specs.Tree.{IsTree, listing};
 
 use crate::file::Stat;
 use crate::namespace::{Namespace, NsError};
@@ -181,9 +181,10 @@ impl Namespace for MemNs {
         ensures refused { IfErr result (λ error. IsRefused (Delete place.now) error (Some self.old.tree) (Some self.new.tree)) }
         ensures only { IfErr result (λ error. IsTrue (is_change_error error)) }
 
-        // Exactly when it fails, what stands after a failure without effect, and what is counted.
+        // Exactly when it fails, what stands after a failure with and without effect, and what is counted.
         ensures fails { IsErrOf result NsError.Failed ↔ IsSome (write_fate self.old) }
         ensures idle { write_fate self.old ≡ Some false → self.new.tree ≡ self.old.tree }
+        ensures effect { write_fate self.old ≡ Some true → self.new.tree ≡ step (Delete place.now) self.old.tree }
         ensures counted { self.new ≡ after_write self.new.tree self.old }
         ensures later { self.old.faults ≤ self.new.faults }
     {
@@ -202,9 +203,10 @@ impl Namespace for MemNs {
         ensures refused { IfErr result (λ error. IsRefused (Touch place.now moment) error (Some self.old.tree) (Some self.new.tree)) }
         ensures only { IfErr result (λ error. IsTrue (is_change_error error)) }
 
-        // Exactly when it fails, what stands after a failure without effect, and what is counted.
+        // Exactly when it fails, what stands after a failure with and without effect, and what is counted.
         ensures fails { IsErrOf result NsError.Failed ↔ IsSome (write_fate self.old) }
         ensures idle { write_fate self.old ≡ Some false → self.new.tree ≡ self.old.tree }
+        ensures effect { write_fate self.old ≡ Some true → self.new.tree ≡ step (Touch place.now moment) self.old.tree }
         ensures counted { self.new ≡ after_write self.new.tree self.old }
         ensures later { self.old.faults ≤ self.new.faults }
     {
@@ -260,7 +262,11 @@ impl Namespace for MemNs {
         Ok(self.tree.listing(below)?)
     }
 
-    fn faults(&self) -> u64 {
+    fn faults(&self) -> u64
+        ensures count { result ≡ self.now.faults }
+        ensures tree { IsTree self.now.tree }
+    {
+        self.tree.holds();
         self.faults
     }
 }

@@ -27,15 +27,16 @@ pub(crate) fn moves(
     alloc: Global,
     from: &Place,
     to: &Place,
-    sources: &Items<Place>,
+    sources: Items<Place>,
 ) -> Result<Vec<Move>, NoMemory>
-    ensures { IfOk result (λ moves. moves.items ≡ map (move_of from.now to.now) sources.now) }
+    ensures { IfOk result (λ moves. moves.items ≡ map (move_of from.now to.now) sources) }
 {
     let mut moves = Vec::with_capacity(alloc, sources.len())?;
-    for place in sources.as_slice() {
+    for place in sources.into_vec() {
+        let new = target_of(alloc, from, to, &place)?;
         moves.push(Move {
-            old: place.as_blob().copy()?,
-            new: target_of(alloc, from, to, place)?,
+            old: place.into_blob(),
+            new,
         })?;
     }
     Ok(moves)
@@ -128,7 +129,7 @@ impl Files {
         ensures { IsClearedOfSources moves.now self.old self.new }
     {
         for m in moves {
-            self.take(&m.old);
+            let _ = self.take(&m.old);
         }
     }
 
@@ -136,7 +137,7 @@ impl Files {
         ensures { IsClearedOfTargets moves.now self.old self.new }
     {
         for m in moves {
-            self.take(&m.new);
+            let _ = self.take(&m.new);
         }
     }
 }

@@ -4,7 +4,7 @@ ghost use Rattle.std.specs.FinMap as map;
 ghost use Rattle.hb_causes.specs.Faults.{Rose};
 ghost use Rattle.ns_tree.specs.Namespace.{IsDone, IsRefused, is_create_error, is_change_error, bytes_at, stat_of};
 ghost use Rattle.ns_tree.specs.Step.{Create, Append, Rename, Delete, Touch};
-ghost use Rattle.ns_tree.specs.Tree.{Tree, listing};
+ghost use Rattle.ns_tree.specs.Tree.{Tree, IsTree, listing};
 
 use crate::file::Stat;
 use bytes::Bytes;
@@ -46,7 +46,8 @@ impl From<NoMemory> for NsError {
 
 /// A store of files. It may tell its tree, in contracts alone: no call says whether it does.
 pub trait Namespace {
-    /// The tree that it tells, or none.
+    /// The tree that it tells, or none. Its keys are places, and no file stands below a file, which
+    /// `faults` says of the store as it is.
     ghost told: { Self → Option Tree };
 
     /// How many of its calls have failed, up to the last value of a `u64`.
@@ -124,5 +125,6 @@ pub trait Namespace {
 
     /// How many of its calls have failed.
     fn faults(&self) -> u64
-        ensures { result ≡ faults self.now };
+        ensures count { result ≡ faults self.now }
+        ensures tree { IfSome (told self.now) IsTree };
 }

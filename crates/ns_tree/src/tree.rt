@@ -6,9 +6,10 @@ ghost use Rattle.ns_tree.specs.Places.{is_within};
 ghost use Rattle.ns_tree.specs.Namespace.{bytes_at, stat_of};
 ghost use Rattle.ns_tree.specs.Step.{Create, Append, Rename, Delete, Touch, step, refusal, change_refusal, rename_refusal};
 ghost use Rattle.std.specs.FinMap as map;
-ghost use Rattle.ns_tree.specs.Tree.{listing, create_refusal};
+ghost use Rattle.ns_tree.specs.Tree.{IsTree, listing, create_refusal};
 
 use crate::file::{FileState, Stat};
+use crate::file_bytes::FileBytes;
 use crate::files::Files;
 use crate::moves::{Move, has_too_deep, moves};
 use crate::namespace::NsError;
@@ -52,6 +53,13 @@ impl Tree {
         }
     }
 
+    /// Does nothing when it runs: a caller's proof learns from it what every tree keeps.
+    pub(crate) fn holds(&self)
+        ensures { IsTree self.now }
+    {
+        let _ = &self.files;
+    }
+
     /// The file at a place.
     pub fn get(&self, place: &Place) -> Option<&FileState>
         ensures { option_copied result ≡ map.get self.now place.now }
@@ -93,7 +101,8 @@ impl Tree {
         ensures refused { IfErr result (λ error. (error ≡ NsError.NoMemory) ⊎ (refusal (Create place.now bytes.now) self.old ≡ Some error)) }
         ensures err { OnErr result (self.new ≡ self.old) }
     {
-        let bytes = Bytes::copy_from_slice(self.files.allocator(), bytes)?;
+        let alloc = self.files.allocator();
+        let bytes = FileBytes::of(alloc, Bytes::copy_from_slice(alloc, bytes)?)?;
         self.add(place.copy()?, FileState { bytes, moment: 0 })
     }
 
@@ -104,37 +113,25 @@ impl Tree {
         ensures refused { IfErr result (λ error. (error ≡ NsError.NoMemory) ⊎ (refusal (Append place.now bytes.now) self.old ≡ Some error)) }
         ensures err { OnErr result (self.new ≡ self.old) }
     {
-        let Some(file) = self.get(place) else {
-            return Err(NsError::Missing);
-        };
-        let bytes = joined(self.files.allocator(), file.bytes.as_slice(), bytes)?;
-        let moment = file.moment;
-        self.replace(place, FileState { bytes, moment })
+        if self.files.add_bytes(place.as_blob(), bytes)? {
+            Ok(())
+        } else {
+            Err(NsError::Missing)
+        }
     }
 
-    /// Sets the moment of a file.
+    /// Sets the moment of a file. It takes no memory.
     pub(crate) fn touch(&mut self, place: &Place, moment: u64) -> Result<(), NsError>
-        ensures ok { OnOk result (self.new ≡ step (Touch place.now moment) self.old) }
+        ensures after { self.new ≡ step (Touch place.now moment) self.old }
         ensures stood { OnOk result (refusal (Touch place.now moment) self.old ≡ None) }
-        ensures refused { IfErr result (λ error. (error ≡ NsError.NoMemory) ⊎ (refusal (Touch place.now moment) self.old ≡ Some error)) }
+        ensures refused { IfErr result (λ error. refusal (Touch place.now moment) self.old ≡ Some error) }
         ensures err { OnErr result (self.new ≡ self.old) }
     {
-        let Some(file) = self.get(place) else {
-            return Err(NsError::Missing);
-        };
-        let bytes = file.bytes.clone()?;
-        self.replace(place, FileState { bytes, moment })
-    }
-
-    // Puts another file at a place where one stands.
-    fn replace(&mut self, place: &Place, file: FileState) -> Result<(), NsError>
-        requires { IsTrue (map.contains_key self.old place.now) }
-        ensures ok { OnOk result (self.new ≡ map.insert self.old place.now file) }
-        ensures memory { IfErr result (λ error. error ≡ NsError.NoMemory) }
-        ensures err { OnErr result (self.new ≡ self.old) }
-    {
-        self.files.put(place.as_blob().copy()?, file)?;
-        Ok(())
+        if self.files.set_moment(place.as_blob(), moment) {
+            Ok(())
+        } else {
+            Err(NsError::Missing)
+        }
     }
 
     /// Moves a file, or all files below a directory, with their bytes and moments.
@@ -161,7 +158,7 @@ impl Tree {
         if sources.is_empty() {
             return Err(NsError::Missing);
         }
-        let moves = moves(self.files.allocator(), from, to, &sources)?;
+        let moves = moves(self.files.allocator(), from, to, sources)?;
         if is_below(from.as_slice(), to.as_slice()) || has_too_deep(moves.as_slice()) {
             return Err(NsError::Inside);
         }
@@ -171,21 +168,23 @@ impl Tree {
         }
     }
 
-    /// Removes a file.
+    /// Removes a file. It takes no memory.
+    #[tactic(auto, using(crate::proofs::Trees::remove_absent))]
     pub(crate) fn delete(&mut self, place: &Place) -> Result<(), NsError>
-        ensures ok { OnOk result (self.new ≡ step (Delete place.now) self.old) }
+        ensures after { self.new ≡ step (Delete place.now) self.old }
         ensures stood { OnOk result (refusal (Delete place.now) self.old ≡ None) }
         ensures refused { IfErr result (λ error. refusal (Delete place.now) self.old ≡ Some error) }
         ensures err { OnErr result (self.new ≡ self.old) }
     {
-        if !self.files.has(place.as_blob()) {
-            return Err(NsError::Missing);
+        if self.files.take(place.as_blob()) {
+            Ok(())
+        } else {
+            Err(NsError::Missing)
         }
-        self.files.take(place.as_blob());
-        Ok(())
     }
 
-    /// The bytes of a file from a position on, at most so many. They are shared, and not copied.
+    /// The bytes of a file from a position on, at most so many. They are shared where one piece of the file
+    /// has them.
     pub(crate) fn read_at(&self, place: &Place, at: u64, len: usize) -> Result<Bytes, NsError>
         ensures ok { IfOk result (λ bytes. option_map (bytes_at at len) (map.get self.now place.now) ≡ Some bytes) }
         ensures refused { IfErr result (λ error. (error ≡ NsError.NoMemory) ⊎ (change_refusal place.now self.now ≡ Some error)) }
@@ -193,7 +192,7 @@ impl Tree {
         let Some(file) = self.get(place) else {
             return Err(NsError::Missing);
         };
-        Ok(piece(&file.bytes, at, len)?)
+        Ok(file.bytes.read(self.files.allocator(), at, len)?)
     }
 
     /// The size and the moment of a file.
@@ -205,7 +204,7 @@ impl Tree {
             return Err(NsError::Missing);
         };
         Ok(Stat {
-            size: file.bytes.len() as u64,
+            size: file.bytes.len(),
             moment: file.moment,
         })
     }
@@ -219,26 +218,4 @@ impl Tree {
             None => self.files.places(),
         }
     }
-}
-
-// The bytes of one slice, and then those of another.
-fn joined(alloc: Global, front: &[u8], back: &[u8]) -> Result<Bytes, NoMemory>
-    ensures { IfOk result (λ bytes. bytes ≡ front.now ++ back.now) }
-{
-    let mut bytes = Vec::with_capacity(alloc, front.len() + back.len())?;
-    bytes.extend_from_slice(front)?;
-    bytes.extend_from_slice(back)?;
-    Ok(Bytes::from_vec(bytes)?)
-}
-
-// The bytes from a position on, at most so many.
-fn piece(bytes: &Bytes, at: u64, len: usize) -> Result<Bytes, NoMemory>
-    ensures { IfOk result (λ piece. piece ≡ take len (drop at bytes.now)) }
-{
-    if at >= bytes.len() as u64 {
-        return Ok(Bytes::new());
-    }
-    let start = at as usize;
-    let end = start + len.min(bytes.len() - start);
-    bytes.slice(start..end)
 }

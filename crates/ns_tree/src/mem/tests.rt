@@ -1,5 +1,7 @@
 use super::*;
 use crate::file::FileState;
+use crate::file_bytes::FileBytes;
+use hb_wire::Copied;
 use std::alloc::Global;
 use std::test::Fail;
 
@@ -65,6 +67,139 @@ const SECOND: [Row; 9] = [
     (Call::Append(b"d/e/b", b"!"), Ok(())),
 ];
 
+// A file as a test writes it down: its place's text, its bytes and its moment.
+type Line = (&'static [u8], &'static [u8], u64);
+
+// Whether a tree has these files and no others.
+fn has_files(tree: &Tree, alloc: Global, files: &[Line]) -> Result<bool, Fail> {
+    for (place, bytes, moment) in files {
+        match tree.get(&Place::read(alloc, place)?) {
+            Some(file) if file.moment == *moment => {
+                if file.bytes.read(alloc, 0, usize::MAX)?.as_slice() != *bytes {
+                    return Ok(false);
+                }
+            }
+            _ => return Ok(false),
+        }
+    }
+    Ok(tree.listing(None)?.len() == files.len())
+}
+
+fn tree_of(alloc: Global, files: &[Line]) -> Result<Tree, Fail> {
+    let mut tree = Tree::new(alloc);
+    for (place, bytes, moment) in files {
+        let file = FileState {
+            bytes: FileBytes::of(alloc, Bytes::copy_from_slice(alloc, bytes)?)?,
+            moment: *moment,
+        };
+        tree.add(Place::read(alloc, place)?, file)?;
+    }
+    Ok(tree)
+}
+
+const FIRST_LINE: Line = (b"a/b", b"xy", 7);
+
+const SECOND_LINE: Line = (b"a/c", b"z", 8);
+
+const THIRD_LINE: Line = (b"d", b"", 9);
+
+const STOOD: [Line; 3] = [FIRST_LINE, SECOND_LINE, THIRD_LINE];
+
+// Each writing call, and the files that it leaves where it is done.
+const EFFECTS: [(Call, &[Line]); 7] = [
+    (
+        Call::Create(b"e/f", b"new"),
+        &[FIRST_LINE, SECOND_LINE, THIRD_LINE, (b"e/f", b"new", 0)],
+    ),
+    (
+        Call::Append(b"a/b", b"z!"),
+        &[(b"a/b", b"xyz!", 7), SECOND_LINE, THIRD_LINE],
+    ),
+    (
+        Call::Rename(b"a", b"e/f"),
+        &[(b"e/f/b", b"xy", 7), (b"e/f/c", b"z", 8), THIRD_LINE],
+    ),
+    (Call::Delete(b"a/c"), &[FIRST_LINE, THIRD_LINE]),
+    (
+        Call::Touch(b"d", 4),
+        &[FIRST_LINE, SECOND_LINE, (b"d", b"", 4)],
+    ),
+    // Two that can't be done.
+    (Call::Create(b"d/e", b"new"), &STOOD),
+    (Call::Touch(b"f", 4), &STOOD),
+];
+
+// A call that fails without effect leaves the files that stood, and one that fails with effect those that it leaves
+// where it is done.
+#[test]
+fn fails_with_and_without_effect(rt: HostRuntime) -> Result<(), Fail> {
+    let alloc = rt.alloc();
+    for (call, files) in EFFECTS {
+        for has_effect in [false, true] {
+            let writes = Items::from_vec(vec![in alloc; (1, has_effect)]?);
+            let mut ns = MemNs::new(tree_of(alloc, &STOOD)?, writes, Items::new(alloc));
+            assert_eq!(rt; answer(&mut ns, alloc, call)?, Err(NsError::Failed));
+            assert_eq!(rt; ns.faults(), 1);
+            let left = if has_effect { files } else { &STOOD };
+            assert!(rt; has_files(&ns.into_tree(), alloc, left)?);
+        }
+    }
+    Ok(())
+}
+
+// Files of few and of many bytes are made, added to, read and copied.
+#[test]
+fn reads_what_was_written(rt: HostRuntime) -> Result<(), Fail> {
+    let alloc = rt.alloc();
+    let place = Place::read(alloc, b"a/b")?;
+    for (byte, count) in [(0, 0), (1, 1), (2, 70_000)] {
+        let front = vec![in alloc; byte; count]?;
+        let back = vec![in alloc; 9; count]?;
+        let mut ns = MemNs::new(Tree::new(alloc), Items::new(alloc), Items::new(alloc));
+        assert_eq!(rt; ns.create(&place, front.as_slice()), Ok(()));
+        assert_eq!(rt; ns.append(&place, back.as_slice()), Ok(()));
+        assert_eq!(rt; ns.read_at(&place, 0, count)?.as_slice(), front.as_slice());
+        let rest = ns.read_at(&place, count as u64, usize::MAX)?;
+        assert_eq!(rt; rest.as_slice(), back.as_slice());
+        let all = ns.read_at(&place, 0, usize::MAX)?;
+        assert!(rt; all.as_slice().starts_with(front.as_slice()));
+        assert!(rt; all.as_slice().ends_with(back.as_slice()));
+        assert_eq!(rt; all.len() as u64, ns.stat(&place)?.size);
+        assert_eq!(rt; ns.read_at(&place, u64::MAX, 1)?.len(), 0);
+        assert_eq!(rt;
+            ns.stat(&place)?.size,
+            front.len() as u64 + back.len() as u64
+        );
+        let Some(file) = ns.tree().get(&place) else {
+            return Err(NsError::Missing.into());
+        };
+        let copy = file.copy()?;
+        let bytes = copy.bytes.read(alloc, 0, usize::MAX)?;
+        assert_eq!(rt;
+            bytes.as_slice(),
+            ns.read_at(&place, 0, usize::MAX)?.as_slice()
+        );
+        assert_eq!(rt; copy.moment, 0);
+    }
+    Ok(())
+}
+
+#[test]
+fn says_why_a_call_is_refused(rt: HostRuntime) -> Result<(), Fail> {
+    let texts = [
+        (NsError::Missing, "no such file"),
+        (NsError::Inside, "moved into itself or too deep"),
+        (NsError::Exists, "something stands there"),
+        (NsError::BelowFile, "below a file"),
+        (NsError::Failed, "the store failed"),
+        (NsError::NoMemory, "no memory"),
+    ];
+    for (error, text) in texts {
+        assert_eq!(rt; format!(in rt.alloc(); "{error}")?.as_str(), text);
+    }
+    Ok(())
+}
+
 fn reads(ns: &mut MemNs, alloc: Global) -> Result<bool, Fail> {
     let place = Place::read(alloc, b"d/e/b")?;
     if ns.stat(&place)? != (Stat { size: 4, moment: 9 }) {
@@ -101,7 +236,7 @@ fn lists_what_was_added(rt: HostRuntime) -> Result<(), Fail> {
     ];
     for (text, answer) in added {
         let file = FileState {
-            bytes: Bytes::new(),
+            bytes: FileBytes::new(alloc),
             moment: 7,
         };
         assert_eq!(rt; tree.add(Place::read(alloc, text)?, file), answer);

@@ -49,8 +49,8 @@ returns-in-Ok-clause-whole c =
     let sources : AreSources c.args.from.now c.args.self.now c.in_ok-sources.sources = subst (λ t. AreSources c.args.from.now t c.in_ok-sources.sources) c.self.view_is c.in_ok-sources.ensures in
     is_source-sources c.args.from.now c.args.to.now c.args.self.now c.in_ok-sources.sources c.in_ok-moves.moves.items sources c.in_ok-moves.ensures
 
-pub returns-clause-refused : goal.returns-clause-refused
-returns-clause-refused c =
+pub returns-in-Err-clause-refused : goal.returns-in-Err-clause-refused
+returns-in-Err-clause-refused c =
     let sources : AreSources c.args.from.now c.args.self.now c.in_ok-sources.sources = subst (λ t. AreSources c.args.from.now t c.in_ok-sources.sources) c.self.view_is c.in_ok-sources.ensures in
     let taken : is_taken c.args.from.now c.args.self.now ≡ true = is_taken-sources c.args.from.now c.args.self.now c.in_ok-sources.sources sources (λ e. true≢false (sym (c.is_empty.ensures.1 e) ∙ c.if-is_empty.false)) in
     let below : is_below c.args.from.now c.args.to.now ≡ false =
