@@ -3,4 +3,3 @@ pub mod OutputLemmas
 pub mod PlaceLemmas
 pub mod ScriptLemmas
 pub mod SetLemmas
-pub mod WordLemmas

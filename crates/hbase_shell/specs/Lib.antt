@@ -3,4 +3,3 @@ pub mod Run
 pub mod RunError
 pub mod Script
 pub mod Snapshots
-pub mod Words

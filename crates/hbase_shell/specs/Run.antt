@@ -1,5 +1,6 @@
 -- What a run of the program answers, and why.
-use Rattle.std.specs.Prelude.{◌≡◌, ℕ, List, Option, Result, Ok, Err, ◌⊎◌}
+use Rattle.std.specs.Prelude.{◌≡◌, ℕ, List, Option, Result, Ok, Err, IsOk, ◌⊎◌}
+use Rattle.hb_causes.specs.Faults.{Rose}
 use Rattle.ns_tree.specs.Tree.{Tree}
 use Rattle.hbase_shell.specs.declared.run_error.RunError.{RunError}
 use Rattle.hbase_shell.specs.declared.run_error.RunError.TheVariants.{BadScript, Usage, ReadFault, NsFault, NoMemory}
@@ -7,6 +8,10 @@ use Rattle.hbase_shell.specs.Output.{Writes, WritesFront}
 use Rattle.hbase_shell.specs.RunError as error
 use Rattle.hbase_shell.specs.Script.{ReadsScript, ReadsAnother}
 use Rattle.hbase_shell.specs.Snapshots.{IsListing}
+use Rattle.shell_words.specs.declared.options.Options.{Options}
+use Rattle.shell_words.specs.declared.words.WordsError.{WordsError}
+use Rattle.shell_words.specs.declared.words.WordsError.TheVariants as words
+use Rattle.shell_words.specs.Reading.{IsReading}
 
 -- the text that an answer writes
 abbrev pub text_of : Result (List ℕ) RunError → List ℕ
@@ -18,32 +23,68 @@ abbrev pub status_of : Result (List ℕ) RunError → ℕ
 status_of (Ok text) = 0
 status_of (Err e) = error.status_of e
 
--- What a run meets: right words; what its source tells before it and after it; a fault of the source; a fault of the
--- store; and whether it leaves the store as it was.
-module _ (words : Type 0) (left rest : Option (List ℕ)) (read_fault ns_fault untouched : Type 0) where
-  -- what brings an error
-  abbrev pub IsCause : RunError → Type 0
-  IsCause Usage = ¬ words × untouched
-  IsCause ReadFault = words × read_fault × untouched
-  IsCause BadScript = words × ReadsAnother left rest × untouched
-  IsCause NsFault = words × ReadsScript left rest × ns_fault
-  IsCause NoMemory = words × ReadsScript left rest
+-- the exit status of an answer that a fault of the sink cut off
+abbrev pub write_fault_status : ℕ
+write_fault_status = 4
 
-  -- what brings an answer
-  abbrev pub IsDue : Option Tree → Result (List ℕ) RunError → Type 0
-  IsDue told (Ok text) = words × ReadsScript left rest × IsListing told text
-  IsDue told (Err e) = IsCause e
+-- a value before a run and after it
+pub record Change (X : Type 0) : Type 0 where
+  pub old : X
+  pub new : X
+
+-- What a run meets before it has an answer: what its words say; what its source tells to be left, and how many calls of that have
+-- failed; the store, how many calls of that have failed, and the tree that it tells before.
+pub record Met (N : Type 0) : Type 0 where
+  pub words : Result Options WordsError
+  pub left : Change (Option (List ℕ))
+  pub read_faults : Change ℕ
+  pub store : Change N
+  pub ns_faults : Change ℕ
+  pub told : Option Tree
+
+-- what its answer meets: what its sink tells to have been written, and how many calls of that have failed
+pub record Sent : Type 0 where
+  pub written : Change (Option (List ℕ))
+  pub write_faults : Change ℕ
+
+-- the words were taken, and the input was the script
+abbrev pub WasScript : {N : Type 0} → Met N → Type 0
+WasScript met = IsOk met.words × ReadsScript met.left.old met.left.new
+
+-- the store is as it was handed in
+abbrev pub IsUntouched : {N : Type 0} → Met N → Type 0
+IsUntouched met = met.store.new ≡ met.store.old
+
+-- what brings an error
+abbrev pub IsCause : {N : Type 0} → Met N → RunError → Type 0
+IsCause met Usage = (met.words ≡ Err words.Usage) × IsUntouched met
+IsCause met ReadFault = IsOk met.words × Rose met.read_faults.old met.read_faults.new × IsUntouched met
+IsCause met BadScript = IsOk met.words × ReadsAnother met.left.old met.left.new × IsUntouched met
+IsCause met NsFault = WasScript met × Rose met.ns_faults.old met.ns_faults.new
+IsCause met NoMemory = ((met.words ≡ Err words.NoMemory) × IsUntouched met) ⊎ WasScript met
+
+-- what brings an answer
+abbrev pub IsDue : {N : Type 0} → Met N → Result (List ℕ) RunError → Type 0
+IsDue met (Ok text) = WasScript met × IsListing met.told text
+IsDue met (Err e) = IsCause met e
 
 -- the answer was written whole, or a fault of the sink cut it off
-abbrev pub IsWritten : Option (List ℕ) → Option (List ℕ) → Type 0 → Result (List ℕ) RunError → ℕ → Type 0
-IsWritten old new write_fault answer status =
-    (Writes old new (text_of answer) × (status ≡ status_of answer)) ⊎ (WritesFront old new (text_of answer) × write_fault × (status ≡ 4))
+abbrev pub IsWritten : Sent → Result (List ℕ) RunError → ℕ → Type 0
+IsWritten sent answer status =
+    (Writes sent.written.old sent.written.new (text_of answer) × (status ≡ status_of answer))
+    ⊎ (WritesFront sent.written.old sent.written.new (text_of answer) × Rose sent.write_faults.old sent.write_faults.new × (status ≡ write_fault_status))
 
 -- a run had an answer that was due, and wrote it
-pub record IsAnswered (words : Type 0) (left rest : Option (List ℕ)) (read_fault ns_fault untouched : Type 0) (told : Option Tree) (old new : Option (List ℕ)) (write_fault : Type 0) (status : ℕ) : Type 0 where
+pub record IsAnswered {N : Type 0} (met : Met N) (sent : Sent) (status : ℕ) : Type 0 where
   pub answer : Result (List ℕ) RunError
-  pub due : IsDue words left rest read_fault ns_fault untouched told answer
-  pub written : IsWritten old new write_fault answer status
+  pub due : IsDue met answer
+  pub written : IsWritten sent answer status
+
+-- a run read its words, and had an answer to what it met with them
+pub record IsRun {N : Type 0} (given : List (List ℕ)) (met : Result Options WordsError → Met N) (sent : Sent) (status : ℕ) : Type 0 where
+  pub words : Result Options WordsError
+  pub reading : IsReading given words
+  pub answered : IsAnswered (met words) sent status
 
 -- a whole listing of the store was written
 abbrev pub ListsSnapshots : Option Tree → Option (List ℕ) → Option (List ℕ) → Type 0

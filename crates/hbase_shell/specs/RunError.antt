@@ -2,7 +2,14 @@
 use Rattle.std.specs.Prelude.{ℕ, List, codes}
 use Rattle.hbase_shell.specs.declared.run_error.RunError.{RunError}
 use Rattle.hbase_shell.specs.declared.run_error.RunError.TheVariants.{BadScript, Usage, ReadFault, NsFault, NoMemory}
+use Rattle.shell_words.specs.declared.words.WordsError.{WordsError}
+use Rattle.shell_words.specs.declared.words.WordsError.TheVariants as words
 use Rattle.hbase_shell.specs.Script.{line}
+
+-- the error of words that are not read
+abbrev pub error_of : WordsError → RunError
+error_of words.Usage = Usage
+error_of words.NoMemory = NoMemory
 
 -- the exit status of each
 abbrev pub status_of : RunError → ℕ

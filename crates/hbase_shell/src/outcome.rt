@@ -1,6 +1,11 @@
 //! What a run hands back.
+ghost use Rattle.std.specs.Prelude.{◌≡◌};
+ghost use Rattle.std.specs.Process.{exit_status};
 
-/// How a run ended, and what was handed in to it.
+use std::io::Eprint;
+use std::process::{ExitCode, Termination};
+
+/// How a run ended, and what was handed in to it. A program's `main` may return it.
 #[derive(Drop)]
 pub struct Outcome<N, P, C> {
     /// The exit status.
@@ -11,4 +16,13 @@ pub struct Outcome<N, P, C> {
     pub peer: P,
     /// The clock.
     pub clock: C,
+}
+
+impl<N: Drop, P: Drop, C: Drop> Termination for Outcome<N, P, C> {
+    /// The process ends with the run's status, and nothing is said on standard error.
+    fn report<R: Eprint>(self, _rt: &R) -> ExitCode
+        ensures { exit_status result ≡ self.status }
+    {
+        ExitCode::from(self.status)
+    }
 }

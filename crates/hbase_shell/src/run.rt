@@ -1,29 +1,30 @@
 //! The program's calls, from words and bytes to bytes.
-ghost use Rattle.std.specs.Prelude.{◌≡◌, ◌≢◌, ◌⊎◌, IfSome, ⊤, map};
+ghost use Rattle.std.specs.Prelude.{◌≡◌, ◌≢◌, ◌⊎◌, Ok, IfSome, map};
 ghost use Rattle.std.specs.String.{string_bytes};
 ghost use Rattle.hb_causes.specs.Faults.{Rose};
-ghost use Rattle.hbase_shell.specs.Run.{IsAnswered, IsDue, IsWritten, ListsSnapshots};
+ghost use Rattle.hbase_shell.specs.Run.{IsAnswered, IsDue, IsRun, IsWritten, ListsSnapshots};
 ghost use Rattle.hbase_shell.specs.Script.{IsScript, ReadsScript, ReadsAnother};
-ghost use Rattle.hbase_shell.specs.Words.{AreScriptWords};
+ghost use Rattle.shell_words.specs.declared.options.Options.{Options};
+ghost use Rattle.shell_words.specs.Line.{IsPlainLine};
+ghost use Rattle.shell_words.specs.Reading.{AreTaken, Refuses};
 
-use crate::options::Options;
 use crate::outcome::Outcome;
 use crate::output::write_text;
 use crate::run_error::RunError;
 use crate::script::read_script;
 use crate::snapshots::list_snapshots;
-use crate::words::are_script_words;
 use hb_causes::{Clock, Failed, Gate, Sink, Source};
 use hb_wire::Blob;
 use ns_tree::Namespace;
+use shell_words::{Options, read_words};
 use std::alloc::Global;
 
 /// The exit status of a run whose output could not be written.
 const WRITE_FAULT: u8 = 4;
 
-/// Runs the command that the words behind the program's name tell. The one command is `mem script`, which
-/// runs the script of `input` over `store` and writes its answer to `output`, as [`hbase_script`] does.
-/// Other words take the status 2, and nothing is read.
+/// Runs the command that the words behind the program's name tell. The one command is `mem script` with any of the
+/// options `--ttl`, `--tick` and `--rounds`. It runs the script of `input` over `store` and writes its answer to
+/// `output`, as [`hbase_script`] does. Words that the command refuses take the status 2, and nothing is read.
 ///
 /// It takes the allocator, and gives back what was handed in by value. The peer, the clock and the gate
 /// are not used by this command.
@@ -44,45 +45,48 @@ pub fn hbase<
     clock: C,
     gate: &G,
 ) -> Outcome<N, P, C>
-    // There was an answer by its cause, and it was written whole or cut off by a fault of the sink.
-    ensures answered { IsAnswered (AreScriptWords (map string_bytes words.now))
-        (I.left input.old) (I.left input.new) (Rose (I.faults input.old) (I.faults input.new))
-        (Rose (N.faults store) (N.faults result.store)) (result.store ≡ store) (N.told store)
-        (O.written output.old) (O.written output.new) (Rose (O.faults output.old) (O.faults output.new))
-        result.status }
+    // The words were read, there was an answer by its cause, and it was written whole or cut off by a fault of the sink.
+    ensures run { IsRun (map string_bytes words.now) (λ read. record {
+      words = read;
+      left = record { old = I.left input.old; new = I.left input.new };
+      read_faults = record { old = I.faults input.old; new = I.faults input.new };
+      store = record { old = store; new = result.store };
+      ns_faults = record { old = N.faults store; new = N.faults result.store };
+      told = N.told store;
+    })
+        (record {
+          written = record { old = O.written output.old; new = O.written output.new };
+          write_faults = record { old = O.faults output.old; new = O.faults output.new };
+        }) result.status }
 
     // So this is what each status says.
-    ensures listed { result.status ≡ 0 → AreScriptWords (map string_bytes words.now)
+    ensures listed { result.status ≡ 0 → AreTaken (map string_bytes words.now)
         × ReadsScript (I.left input.old) (I.left input.new)
         × ListsSnapshots (N.told store) (O.written output.old) (O.written output.new) }
     ensures bad_script { result.status ≡ 1 → ReadsAnother (I.left input.old) (I.left input.new) }
-    ensures usage { result.status ≡ 2 → ¬ AreScriptWords (map string_bytes words.now) }
+    ensures usage { result.status ≡ 2 → Refuses (map string_bytes words.now) }
     ensures read_fault { result.status ≡ 3 → Rose (I.faults input.old) (I.faults input.new) }
     ensures write_fault { result.status ≡ 4 → Rose (O.faults output.old) (O.faults output.new) }
     ensures ns_fault { result.status ≡ 5 → Rose (N.faults store) (N.faults result.store) }
 
-    // Other words and other inputs are refused as such, unless a fault is.
-    ensures other_words { ¬ AreScriptWords (map string_bytes words.now)
-        → ((result.status ≡ 2) ⊎ (result.status ≡ 4)) × (input.new ≡ input.old) }
-    ensures other_script { AreScriptWords (map string_bytes words.now) → IfSome (I.left input.old) (λ script.
-        ¬ IsScript script → (result.status ≡ 1) ⊎ ((result.status ≡ 3) ⊎ (result.status ≡ 4))) }
+    // A plain line of words is taken. Other words and other inputs are refused as such, unless a fault is, or there is
+    // no memory for the words.
+    ensures plain_words { (options : Options) → IsPlainLine (map string_bytes words.now) options → result.status ≢ 2 }
+    ensures other_words { ¬ AreTaken (map string_bytes words.now)
+        → ((result.status ≡ 2) ⊎ ((result.status ≡ 4) ⊎ (result.status ≡ 8))) × (input.new ≡ input.old) }
+    ensures other_script { (options : Options) → IsPlainLine (map string_bytes words.now) options
+        → IfSome (I.left input.old) (λ script. ¬ IsScript script
+        → (result.status ≡ 1) ⊎ ((result.status ≡ 3) ⊎ ((result.status ≡ 4) ⊎ (result.status ≡ 8)))) }
 
     ensures told { N.told result.store ≡ N.told store }
     ensures kept { (result.peer ≡ peer) × (result.clock ≡ clock) }
 {
     let _ = gate;
-    if are_script_words(words) {
-        return hbase_script(
-            alloc,
-            &Options::default(),
-            input,
-            output,
-            store,
-            peer,
-            clock,
-        );
-    }
-    let status = finish(output, Err(RunError::Usage));
+    let error = match read_words(alloc, words) {
+        Ok(options) => return hbase_script(alloc, &options, input, output, store, peer, clock),
+        Err(error) => RunError::from(error),
+    };
+    let status = finish(output, Err(error));
     Outcome {
         status,
         store,
@@ -116,11 +120,18 @@ pub fn hbase_script<N: Namespace, P: Namespace, I: Source, O: Sink, C: Clock>(
     clock: C,
 ) -> Outcome<N, P, C>
     // There was an answer by its cause, and it was written whole or cut off by a fault of the sink.
-    ensures answered { IsAnswered ⊤
-        (I.left input.old) (I.left input.new) (Rose (I.faults input.old) (I.faults input.new))
-        (Rose (N.faults store) (N.faults result.store)) (result.store ≡ store) (N.told store)
-        (O.written output.old) (O.written output.new) (Rose (O.faults output.old) (O.faults output.new))
-        result.status }
+    ensures answered { IsAnswered (record {
+      words = Ok options.now;
+      left = record { old = I.left input.old; new = I.left input.new };
+      read_faults = record { old = I.faults input.old; new = I.faults input.new };
+      store = record { old = store; new = result.store };
+      ns_faults = record { old = N.faults store; new = N.faults result.store };
+      told = N.told store;
+    })
+        (record {
+          written = record { old = O.written output.old; new = O.written output.new };
+          write_faults = record { old = O.faults output.old; new = O.faults output.new };
+        }) result.status }
 
     // So this is what each status says.
     ensures listed { result.status ≡ 0 → ReadsScript (I.left input.old) (I.left input.new)
@@ -138,9 +149,8 @@ pub fn hbase_script<N: Namespace, P: Namespace, I: Source, O: Sink, C: Clock>(
     ensures told { N.told result.store ≡ N.told store }
     ensures kept { (result.peer ≡ peer) × (result.clock ≡ clock) }
 {
-    let _ = options;
     let mut store = store;
-    let answer = answer_script(alloc, input, &mut store);
+    let answer = answer_script(alloc, options, input, &mut store);
     let status = finish(output, answer);
     Outcome {
         status,
@@ -153,22 +163,31 @@ pub fn hbase_script<N: Namespace, P: Namespace, I: Source, O: Sink, C: Clock>(
 // Reads the script, and then answers it from the store.
 fn answer_script<I: Source, N: Namespace>(
     alloc: Global,
+    options: &Options,
     input: &mut I,
     store: &mut N,
 ) -> Result<Blob, RunError>
-    ensures due { IsDue ⊤
-        (I.left input.old) (I.left input.new) (Rose (I.faults input.old) (I.faults input.new))
-        (Rose (N.faults store.old) (N.faults store.new)) (store.new ≡ store.old) (N.told store.old) result }
+    ensures due { IsDue (record {
+      words = Ok options.now;
+      left = record { old = I.left input.old; new = I.left input.new };
+      read_faults = record { old = I.faults input.old; new = I.faults input.new };
+      store = record { old = store.old; new = store.new };
+      ns_faults = record { old = N.faults store.old; new = N.faults store.new };
+      told = N.told store.old;
+    }) result }
     ensures told { N.told store.new ≡ N.told store.old }
 {
+    let _ = options;
     read_script(input)?;
     list_snapshots(alloc, store)
 }
 
 // Writes an answer, and gives the status of the run.
-fn finish<O: Sink>(output: &mut O, answer: Result<Blob, RunError>) -> u8
-    ensures { IsWritten (O.written output.old) (O.written output.new)
-        (Rose (O.faults output.old) (O.faults output.new)) answer result }
+pub(crate) fn finish<O: Sink>(output: &mut O, answer: Result<Blob, RunError>) -> u8
+    ensures { IsWritten (record {
+      written = record { old = O.written output.old; new = O.written output.new };
+      write_faults = record { old = O.faults output.old; new = O.faults output.new };
+    }) answer result }
 {
     let (status, written) = match &answer {
         Ok(text) => (0, write_text(output, text.as_slice())),

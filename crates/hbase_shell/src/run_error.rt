@@ -1,9 +1,10 @@
 //! Why a run ends without its listing.
 ghost use Rattle.std.specs.Prelude.{◌≡◌};
-ghost use Rattle.hbase_shell.specs.RunError.{status_of, last_line};
+ghost use Rattle.hbase_shell.specs.RunError.{status_of, last_line, error_of};
 ghost use Rattle.hbase_shell.specs.declared.run_error.RunError.TheVariants as variant;
 
 use hb_wire::NoMemory;
+use shell_words::WordsError;
 
 /// Why a run ends without its listing.
 #[derive(Clone, Copy, Debug, PartialEq, Eq)]
@@ -53,5 +54,16 @@ impl From<NoMemory> for RunError {
 
     fn from(_want: NoMemory) -> RunError {
         RunError::NoMemory
+    }
+}
+
+impl From<WordsError> for RunError {
+    ghost from_gives = { λ words error. error ≡ error_of words };
+
+    fn from(words: WordsError) -> RunError {
+        match words {
+            WordsError::Usage => RunError::Usage,
+            WordsError::NoMemory => RunError::NoMemory,
+        }
     }
 }

@@ -1,10 +1,11 @@
-use crate::{Outcome, hbase};
-use bytes::Bytes;
+use crate::{Outcome, hbase, hbase_program};
 use hb_causes::{ListClock, MemSink, MemSource, OpenGate};
 use hb_names::Place;
 use hb_wire::Items;
-use ns_tree::{FileState, MemNs, Tree};
+use ns_tree::{FileBytes, FileState, MemNs, Tree};
 use std::alloc::Global;
+use std::io;
+use std::io::ErrorKind;
 use std::process::Abort;
 use std::test::Fail;
 
@@ -37,7 +38,7 @@ fn store_of(alloc: Global, places: &[&[u8]], reads: &[u64]) -> Result<MemNs, Fai
     let mut tree = Tree::new(alloc);
     for text in places {
         let file = FileState {
-            bytes: Bytes::new(),
+            bytes: FileBytes::new(alloc),
             moment: 0,
         };
         tree.add(Place::read(alloc, text)?, file)?;
@@ -57,7 +58,7 @@ fn answer(alloc: Global, case: &Case) -> Result<(u8, Vec<u8>), Fail> {
         5,
         Vec::from_slice(alloc, case.source)?,
     );
-    let mut output = MemSink::new(alloc, 100, 1, Vec::from_slice(alloc, case.sink)?)?;
+    let mut output = MemSink::new(alloc, 200, 1, Vec::from_slice(alloc, case.sink)?)?;
     let outcome: Outcome<MemNs, MemNs, ListClock> = hbase(
         alloc,
         words.as_slice(),
@@ -88,6 +89,10 @@ fn lists_the_snapshots(rt: HostRuntime) -> Result<(), Fail> {
             input: b"list_snapshots",
             ..SCRIPT
         },
+        Case {
+            words: &["mem", "script", "--ttl", "0", "--rounds=2", "--tick", "7"],
+            ..SCRIPT
+        },
         // A snapshot that is still being taken is none.
         Case {
             places: &[b".hbase-snapshot/.tmp/s1/.snapshotinfo"],
@@ -113,6 +118,14 @@ fn lists_the_snapshots(rt: HostRuntime) -> Result<(), Fail> {
                 b"data/d/e",
             ],
             written: b"a\na-b\na.b\n3 snapshots\n",
+            ..SCRIPT
+        },
+        // A name of the greatest length.
+        Case {
+            places: &[
+                b".hbase-snapshot/0123456789012345678901234567890123456789012345678901234567890123456789012345678901234567890123456789/x",
+            ],
+            written: b"0123456789012345678901234567890123456789012345678901234567890123456789012345678901234567890123456789\n1 snapshots\n",
             ..SCRIPT
         },
         // The store is read once: a second call would fail.
@@ -154,6 +167,10 @@ fn says_why_it_lists_nothing(rt: HostRuntime) -> Result<(), Fail> {
             ..usage
         },
         Case {
+            words: &["mem", "script", "--tick", "0"],
+            ..usage
+        },
+        Case {
             words: &["mem", "script", "script"],
             source: &[1],
             ..usage
@@ -178,4 +195,51 @@ fn says_why_it_lists_nothing(rt: HostRuntime) -> Result<(), Fail> {
         },
     ];
     try_each(&rt, rt.alloc(), &cases)
+}
+
+// The status and the output of the program on what the system gave as its words.
+fn program_answer(alloc: Global, words: io::Result<Vec<String>>) -> Result<(u8, Vec<u8>), Fail> {
+    let mut input = MemSource::new(Vec::from_slice(alloc, SCRIPT.input)?, 5, Vec::new(alloc));
+    let mut output = MemSink::new(alloc, 100, 9, Vec::new(alloc))?;
+    let outcome: Outcome<MemNs, MemNs, ListClock> = hbase_program(
+        alloc,
+        words,
+        &mut input,
+        &mut output,
+        store_of(alloc, &[], &[])?,
+        store_of(alloc, &[], &[])?,
+        ListClock::new(Vec::new(alloc)),
+        &OpenGate,
+    );
+    Ok((outcome.status, output.into_bytes()))
+}
+
+// The words behind the program's name, none at all, words that are no text, and none for want of memory.
+#[test]
+fn runs_on_the_words_of_the_system(rt: HostRuntime) -> Result<(), Fail> {
+    let alloc = rt.alloc();
+    let mut words = Vec::new(alloc);
+    for word in ["./hbase", "mem", "script"] {
+        words.push(String::from_str(alloc, word)?)?;
+    }
+    let cases = [
+        (Ok(words), 0, b"0 snapshots\n".as_slice()),
+        (Ok(Vec::new(alloc)), 2, b"error Usage\n".as_slice()),
+        (
+            Err(ErrorKind::InvalidData.into()),
+            2,
+            b"error Usage\n".as_slice(),
+        ),
+        (
+            Err(ErrorKind::OutOfMemory.into()),
+            8,
+            b"error NoMemory\n".as_slice(),
+        ),
+    ];
+    for (words, status, written) in cases {
+        let answer = program_answer(alloc, words)?;
+        assert_eq!(rt; answer.0, status);
+        assert_eq!(rt; answer.1.as_slice(), written);
+    }
+    Ok(())
 }
