@@ -1,0 +1,4 @@
+pub mod Shown
+pub mod Piece
+pub mod ReplyText
+pub mod CauseText
