@@ -6,7 +6,7 @@ use Rattle.plain_model.specs.CanHappen.{CanHappen}
 use Rattle.plain_machine.specs.State.{HasNumber}
 
 pub numbers_fit : (e : Event) (s : Plain) → CanHappen e s → HasNumber e s
-numbers_fit (Put k c) s h = h.1.1
+numbers_fit (Put k c) s h = h.2
 numbers_fit (Draw k) s h = h.1
 numbers_fit (Freeze k) s h = tt
 numbers_fit (Flush k) s h = tt
