@@ -47,6 +47,10 @@ SameSeen families xs ys = Same xs ys → visible families xs ≡ visible familie
 abbrev pub SameSorted : List Cell → List Cell → Type 0
 SameSorted xs ys = Same xs ys ↔ (sorted xs ≡ sorted ys)
 
+-- cells put in key order, as a merge and a minor compaction put them, are the same cells
+abbrev pub SameInOrder : List Cell → Type 0
+SameInOrder cells = Same (sorted cells) cells
+
 -- what is visible shows as it is
 abbrev pub SeenAgain : List (List ℕ × ℕ) → List Cell → Type 0
 SeenAgain families cells = visible families (visible families cells) ≡ visible families cells

@@ -2,7 +2,7 @@
 
 ghost use Rattle.std.specs.Prelude.{ℕ, Bool, List};
 ghost use Rattle.hb_cell.specs.declared.cell.Cell.{Cell};
-ghost use Rattle.cell_sight.specs.VisibleLaws.{ShowsExactly, Ascends, SameSeen, SameSorted, SeenAgain, SeenByRow, SeenByFamily, SeenAmong};
+ghost use Rattle.cell_sight.specs.VisibleLaws.{ShowsExactly, Ascends, SameSeen, SameSorted, SameInOrder, SeenAgain, SeenByRow, SeenByFamily, SeenAmong};
 
 /// A cell is shown exactly where it is a put that no marker hides, the first of its column and timestamp, and one of
 /// the newest of its column; the cells that are shown ascend strictly in key order.
@@ -11,10 +11,12 @@ pub fn shows_exactly()
     ensures ascending { (families : List (List ℕ × ℕ)) (cells : List Cell) → Ascends families cells }
 {}
 
-/// The same cells show the same, in whatever order they came, and what is shown shows again.
+/// The same cells show the same, in whatever order they came; put in key order, as a minor compaction puts them, they
+/// are the same cells; and what is shown shows again.
 pub fn shows_the_same()
     ensures same { (families : List (List ℕ × ℕ)) (xs ys : List Cell) → SameSeen families xs ys }
     ensures sorted { (xs ys : List Cell) → SameSorted xs ys }
+    ensures in_order { (cells : List Cell) → SameInOrder cells }
     ensures again { (families : List (List ℕ × ℕ)) (cells : List Cell) → SeenAgain families cells }
 {}
 
