@@ -50,13 +50,13 @@ same_front p q a b is_p is_q e =
     (λ i. (numbers i, parts i), sym (drop_at (field_bytes p.0 p.1) a (length (field_bytes p.0 p.1)) refl) ∙ ap (drop (length (field_bytes p.0 p.1))) e ∙ drop_at (field_bytes q.0 q.1) b (length (field_bytes p.0 p.1)) sizes)
 
 -- the fields that go on from some
-record GoesOn (xs ys : List (ℕ × Part)) (rest : List ℕ) : Type 0 where
-  others : List (ℕ × Part)
-  fit : AreParts others
-  joined : ys ≡ xs ++ others
-  behind : rest ≡ message_bytes others
+pub record GoesOn (xs ys : List (ℕ × Part)) (rest : List ℕ) : Type 0 where
+  pub others : List (ℕ × Part)
+  pub fit : AreParts others
+  pub joined : ys ≡ xs ++ others
+  pub behind : rest ≡ message_bytes others
 
-GoesOn-message_bytes : (xs ys : List (ℕ × Part)) (rest : List ℕ) → AreParts xs → AreParts ys → message_bytes xs ++ rest ≡ message_bytes ys → GoesOn xs ys rest
+pub GoesOn-message_bytes : (xs ys : List (ℕ × Part)) (rest : List ℕ) → AreParts xs → AreParts ys → message_bytes xs ++ rest ≡ message_bytes ys → GoesOn xs ys rest
 GoesOn-message_bytes [] ys rest fit_x fit_y e = record { others = ys; fit = fit_y; joined = refl; behind = e }
 GoesOn-message_bytes (x ∷ xs) [] rest fit_x fit_y e =
     absurd (field_some x (message_bytes xs ++ rest) fit_x.0 (sym e ∙ append_assoc (field_bytes x.0 x.1) (message_bytes xs) rest))
@@ -74,7 +74,7 @@ none_at (p ∷ others) rest end e fit is fault =
     let same = ap (field_at end) is in
     absurd cc
 
-no_bytes : (parts : List (ℕ × Part)) → AreParts parts → [] ≡ message_bytes parts → parts ≡ []
+pub no_bytes : (parts : List (ℕ × Part)) → AreParts parts → [] ≡ message_bytes parts → parts ≡ []
 no_bytes [] fit e = refl
 no_bytes (p ∷ parts) fit e = absurd (field_some p (message_bytes parts) fit.0 e)
 
