@@ -3,3 +3,4 @@ pub mod Keys
 pub mod Parts
 pub mod Cells
 pub mod SameKeys
+pub mod Refusals

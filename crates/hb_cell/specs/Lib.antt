@@ -5,3 +5,4 @@ pub mod Hiding
 pub mod Stored
 pub mod Reading
 pub mod OrderLaws
+pub mod Refused

@@ -1,11 +1,12 @@
 -- Reading a stored cell, with the first fault: whatever is missing comes before whatever is wrong.
-use Rattle.std.specs.Prelude.{◌≡◌, ℕ, ◌+◌, ◌-◌, ◌^◌, ℤ, pos, negsuc, Bool, true, false, ◌==◌, ◌||◌, nat_lt, nat_le, if◌then◌else◌, List, [], ◌∷◌, length, take, drop, slice_index, Option, Some, None, Result, Ok, Err}
+use Rattle.std.specs.Prelude.{◌≡◌, ℕ, ◌+◌, ◌-◌, ℤ, pos, negsuc, Bool, true, false, ◌==◌, ◌||◌, nat_lt, nat_le, if◌then◌else◌, List, [], ◌∷◌, length, take, drop, slice_index, Option, Some, None, Result, Ok, Err}
 use Rattle.hb_wire.specs.Fixed.{be_number}
 use Rattle.hb_wire.specs.Vlong.{vlong_at}
 use Rattle.hb_wire.specs.declared.fault.WireError.{WireError}
 use Rattle.hb_wire.specs.declared.fault.WireError.TheVariants as wire
 use Rattle.hb_cell.specs.declared.kind.Kind.{Kind}
 use Rattle.hb_cell.specs.declared.cell.Cell.{Cell}
+use Rattle.hb_cell.specs.declared.cell.TheConstants.{MAX_ROW, MAX_FAMILY, MAX_VALUE, NUMBER_LIMIT}
 use Rattle.hb_cell.specs.declared.fault.CellError.{CellError}
 use Rattle.hb_cell.specs.declared.fault.CellError.TheVariants as errors
 use Rattle.hb_cell.specs.Kinds.{kind_of}
@@ -68,7 +69,7 @@ unfoldable pub row_at : List ℕ → Result (List ℕ × List ℕ) CellError
 row_at bytes =
     let len = be_number 2 bytes in
     if nat_lt (length bytes) 2 then Err errors.FamilyLength
-    else (if len == 0 || nat_lt 32767 len then Err errors.RowLength
+    else (if len == 0 || nat_lt MAX_ROW len then Err errors.RowLength
     else (if nat_lt (length (drop 2 bytes)) len then Err errors.FamilyLength
     else Ok (take len (drop 2 bytes), drop len (drop 2 bytes))))
 
@@ -76,7 +77,7 @@ row_at bytes =
 unfoldable pub family_at : List ℕ → Result (List ℕ × List ℕ) CellError
 family_at [] = Err errors.FamilyLength
 family_at (len ∷ rest) =
-    if len == 0 || nat_lt 127 len || nat_lt (length rest) len then Err errors.FamilyLength else Ok (take len rest, drop len rest)
+    if len == 0 || nat_lt MAX_FAMILY len || nat_lt (length rest) len then Err errors.FamilyLength else Ok (take len rest, drop len rest)
 
 -- the qualifier and the version behind it
 pub record Version : Type 0 where
@@ -87,13 +88,13 @@ pub record Version : Type 0 where
 abbrev pub version_of : List ℕ → ℕ → ℕ → Option Kind → Result Version CellError
 version_of qualifier ts code None = Err (errors.Kind code)
 version_of qualifier ts code (Some kind) =
-    if nat_le (2 ^ 63) ts then Err errors.Timestamp else Ok (record { qualifier = qualifier; ts = ts; kind = kind })
+    if nat_le NUMBER_LIMIT ts then Err errors.Timestamp else Ok (record { qualifier = qualifier; ts = ts; kind = kind })
 
 unfoldable pub version_at : List ℕ → Result Version CellError
 version_at bytes =
     let len = length bytes - 9 in
     let code = slice_index bytes (len + 8) in
-    if nat_lt (length bytes) 9 || nat_lt 32767 len then Err errors.FamilyLength
+    if nat_lt (length bytes) 9 || nat_lt MAX_ROW len then Err errors.FamilyLength
     else version_of (take len bytes) (be_number 8 (drop len bytes)) code (kind_of code)
 
 -- ---- the whole cell
@@ -121,4 +122,4 @@ unfoldable pub cell_at : Bool → List ℕ → Result (Cell × ℕ) CellError
 cell_at with_seq bytes = do
   parts ← parts_at with_seq bytes
   key ← key_at parts.key
-  if nat_lt 10485760 (length parts.value) then Err errors.ValueLength else with_seq_of key parts.value parts.seq parts.used
+  if nat_lt MAX_VALUE (length parts.value) then Err errors.ValueLength else with_seq_of key parts.value parts.seq parts.used

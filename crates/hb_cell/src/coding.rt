@@ -1,7 +1,8 @@
 //! The bytes of a cell in a file.
-ghost use Rattle.std.specs.Prelude.{◌≡◌, ◌≤◌, ◌<◌, ◌^◌, ◌+◌, ◌++◌, ℕ, Bool, List, length, drop, take, pos, IfOk, Ok, OnOk, OnErr};
+ghost use Rattle.std.specs.Prelude.{◌≡◌, ◌≤◌, ◌<◌, ◌^◌, ◌+◌, ◌++◌, ℕ, Bool, List, length, drop, take, pos, IfOk, IfErr, Ok, OnOk, OnErr};
 ghost use Rattle.hb_cell.specs.declared.cell.Cell.{Cell};
 ghost use Rattle.hb_cell.specs.Limits.{IsCell};
+ghost use Rattle.hb_cell.specs.Refused.{IsRefusedFor};
 ghost use Rattle.hb_cell.specs.Stored.{row_bytes, family_bytes, version_bytes, key, seq_bytes, stored, IsNumbered};
 ghost use Rattle.hb_wire.specs.Fixed.{be_bytes};
 ghost use Rattle.hb_cell.specs.Reading.{Gives, seq_at, parts_at, row_at, family_at, version_at, key_at, cell_at};
@@ -210,6 +211,8 @@ pub fn decode_cell(
     ensures only { (cell : Cell) (rest : List ℕ) → IsCell cell → IsNumbered with_seq cell
         → drop at bytes.now ≡ stored with_seq cell ++ rest
         → Gives (λ x. x) result (Ok (cell, length (stored with_seq cell))) }
+    // With fewer bytes than are missing there is no cell, and what is wrong stays wrong, whatever follows.
+    ensures refused { IfErr result (IsRefusedFor with_seq (drop at bytes.now)) }
 {
     let (_, rest) = bytes.split_at(at);
     cell_at(alloc, rest, with_seq)
@@ -217,7 +220,7 @@ pub fn decode_cell(
 
 /// Adds a row with its length at the end.
 fn add_row(out: &mut Blob, row: &Blob) -> Result<(), NoMemory>
-    requires { length row.now ≤ 32767 }
+    requires { length row.now ≤ MAX_ROW }
     ensures ok { OnOk result (out.new ≡ out.old ++ row_bytes row.now) }
     ensures front { take (length out.old) out.new ≡ out.old }
 {
@@ -227,7 +230,7 @@ fn add_row(out: &mut Blob, row: &Blob) -> Result<(), NoMemory>
 
 /// Adds a family with its length at the end.
 fn add_family(out: &mut Blob, family: &Blob) -> Result<(), NoMemory>
-    requires { length family.now ≤ 127 }
+    requires { length family.now ≤ MAX_FAMILY }
     ensures ok { OnOk result (out.new ≡ out.old ++ family_bytes family.now) }
     ensures front { take (length out.old) out.new ≡ out.old }
 {
@@ -258,7 +261,7 @@ fn add_key(out: &mut Blob, cell: &Cell) -> Result<(), NoMemory>
 
 /// Adds a cell's sequence number at the end, or nothing.
 fn add_seq(out: &mut Blob, seq: u64, with_seq: bool) -> Result<(), NoMemory>
-    requires { seq < 2 ^ 63 }
+    requires { seq < NUMBER_LIMIT }
     ensures ok { OnOk result (out.new ≡ out.old ++ seq_bytes with_seq seq) }
     ensures front { take (length out.old) out.new ≡ out.old }
 {
@@ -289,12 +292,21 @@ fn add_lengths(out: &mut Blob, cell: &Cell) -> Result<(), NoMemory>
     put_u32(out, cell.value.len() as u32)
 }
 
+/// Makes room for a cell's bytes, with as many as a number takes at most.
+fn reserve_cell(out: &mut Blob, cell: &Cell) -> Result<(), NoMemory>
+    requires { IsCell cell.now }
+    ensures { out.new ≡ out.old }
+{
+    out.reserve(8 + key_len(cell) + cell.value.len() + 9)
+}
+
 /// Adds a cell's bytes at the end.
 fn add_cell(out: &mut Blob, cell: &Cell, with_seq: bool) -> Result<(), NoMemory>
     requires { IsCell cell.now }
     ensures ok { OnOk result (out.new ≡ out.old ++ stored with_seq cell.now) }
     ensures front { take (length out.old) out.new ≡ out.old }
 {
+    reserve_cell(out, cell)?;
     add_lengths(out, cell)?;
     add_key(out, cell)?;
     out.add(cell.value.as_slice())?;

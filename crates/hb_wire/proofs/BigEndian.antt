@@ -3,10 +3,10 @@ use Rattle.std.proofs.Common.{◌≡◌, ℕ, zero, suc, ◌+◌, ◌*◌, ◌/�
 use Rattle.std.proofs.Math.Nat.{mul-add-div_right, mul-add-mod_self_right, mod-eq_of_lt, mul_assoc, div-one, one-le-pow, pow-succ'}
 use Rattle.std.proofs.lemmas.Nat.{div-mul-add}
 use Rattle.std.proofs.lemmas.Bool.{cases_lt}
-use Rattle.std.proofs.lemmas.List.{get_or-drop, get_or-take, get_or_past, length-take}
+use Rattle.std.proofs.lemmas.List.{get_or-drop, get_or-take, get_or_past, length-take, take-append-le}
 use Rattle.std.specs.Int.{byte_at, bytes_high_first}
 use Rattle.byteorder.specs.Endian.{big_from}
-use Rattle.byteorder.specs.Numbers.{big_from-cons, big_from-lt, big_number-reads_back, length-bytes_high_first}
+use Rattle.byteorder.specs.Numbers.{big_from-cons, big_from-lt, big_from-take, big_number-reads_back, length-bytes_high_first}
 use Rattle.hb_wire.specs.Fixed.{be_bytes, be_number}
 
 -- each number of the list is a byte
@@ -57,6 +57,11 @@ bytes_high_first-big_from (suc n) (b ∷ bytes) long fits =
     bytes_high_first-add n b (big_from 0 n bytes) ∙ bytes_high_first-big_from n bytes (omega arith) rest_fits in
     ap (bytes_high_first (suc n)) whole ∙ rw (top, others) refl
 
+-- bytes behind a number do not change it
+pub big_from-append : (n : ℕ) (bytes more : List ℕ) → n ≤ length bytes → big_from 0 n (bytes ++ more) ≡ big_from 0 n bytes
+big_from-append n bytes more long =
+    sym (big_from-take 0 n n (bytes ++ more) (omega arith)) ∙ ap (big_from 0 n) (take-append-le n bytes more long) ∙ big_from-take 0 n n bytes (omega arith)
+
 -- ---- numbers of a fixed width
 
 pub length-be_bytes : (width n : ℕ) → length (be_bytes width n) ≡ width
@@ -74,3 +79,7 @@ be_number-lt width bytes fits = big_from-lt 0 width bytes fits
 pub be_bytes-be_number : (width : ℕ) (bytes : List ℕ) → width ≤ length bytes → IsBytes bytes → be_bytes width (be_number width bytes) ≡ take width bytes
 unfolding be_bytes be_number
 be_bytes-be_number width bytes long fits = bytes_high_first-big_from width bytes long fits
+
+pub be_number-append : (width : ℕ) (bytes more : List ℕ) → width ≤ length bytes → be_number width (bytes ++ more) ≡ be_number width bytes
+unfolding be_number
+be_number-append width bytes more long = big_from-append width bytes more long

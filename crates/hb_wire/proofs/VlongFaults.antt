@@ -1,20 +1,14 @@
 -- The faults of variable-length numbers: what is missing, and what no bytes behind it mend.
-use Rattle.std.proofs.Common.{◌≡◌, ℕ, ◌+◌, ◌-◌, ◌^◌, ◌<◌, ◌≤◌, ℤ, pos, negsuc, Bool, true, false, cond, ltb, leb, eqb, not, ◌||◌, List, [], ◌∷◌, ◌++◌, length, take, Result, Ok, Err, refl, sym, ap, ◌∙◌, inl, inr, arith}
-use Rattle.std.specs.Prelude.{◌⊎◌, FitsSigned}
-use Rattle.std.specs.Int.{w64}
+use Rattle.std.proofs.Common.{◌≡◌, ℕ, ◌-◌, ◌^◌, ◌<◌, ◌≤◌, ℤ, pos, negsuc, Bool, true, false, cond, ltb, leb, eqb, not, ◌||◌, List, [], ◌∷◌, ◌++◌, length, drop, Result, Ok, Err, refl, sym, ap, subst, ◌∙◌, append_assoc, inl, inr, arith}
+use Rattle.std.specs.Prelude.{◌⊎◌}
 use Rattle.std.proofs.lemmas.Bool.{cases_lt, lt-ltb, le-ltb, ltb-true, ltb-false}
-use Rattle.std.proofs.lemmas.List.{take-append-le, length-append}
+use Rattle.std.proofs.lemmas.List.{length-append}
 use Rattle.byteorder.specs.Endian.{big_from}
-use Rattle.byteorder.specs.Numbers.{big_from-take}
 use Rattle.hb_wire.specs.declared.fault.WireError.{WireError}
-use Rattle.hb_wire.specs.declared.fault.WireError.TheVariants.{Short, Overlong}
+use Rattle.hb_wire.specs.declared.fault.WireError.TheVariants.{Short, Overlong, BadWire, NoMemory}
 use Rattle.hb_wire.specs.Vlong.{byte_count, vlong, stored_at, read_as, vlong_at, BeginsWithNone}
-use Rattle.hb_wire.proofs.Vlongs.{vlong_at-vlong}
-
--- bytes behind a number do not change it
-big_from-append : (n : ℕ) (bytes more : List ℕ) → n ≤ length bytes → big_from 0 n (bytes ++ more) ≡ big_from 0 n bytes
-big_from-append n bytes more long =
-    sym (big_from-take 0 n n (bytes ++ more) (omega arith)) ∙ ap (big_from 0 n) (take-append-le n bytes more long) ∙ big_from-take 0 n n bytes (omega arith)
+use Rattle.hb_wire.proofs.BigEndian.{IsBytes, big_from-append}
+use Rattle.hb_wire.proofs.Vlongs.{vlong_at-vlong, IsVlong-vlong_at}
 
 -- which way a test went
 chosen : {A : Type 0} (b : Bool) (x y z : A) → cond b x y ≡ z → ((b ≡ true) × (x ≡ z)) ⊎ ((b ≡ false) × (y ≡ z))
@@ -104,7 +98,7 @@ vlong_at_nil : vlong_at [] ≡ Err (Short 1)
 unfolding vlong_at
 vlong_at_nil = refl
 
-vlong_at-short : (bytes more : List ℕ) (m : ℕ) → vlong_at bytes ≡ Err (Short m) → length more < m → (n : ℕ) × (vlong_at (bytes ++ more) ≡ Err (Short n))
+pub vlong_at-short : (bytes more : List ℕ) (m : ℕ) → vlong_at bytes ≡ Err (Short m) → length more < m → (n : ℕ) × (vlong_at (bytes ++ more) ≡ Err (Short n))
 vlong_at-short [] [] m e few = (1, vlong_at_nil)
 vlong_at-short [] (b ∷ more) m e few = let one = vlong_at_nil in let same : m ≡ 1 = cc in absurd (omega arith)
 vlong_at-short (first ∷ rest) more m e few =
@@ -123,7 +117,7 @@ vlong_at-short (first ∷ rest) more m e few =
       ]
     ]
 
-vlong_at-overlong : (bytes more : List ℕ) → vlong_at bytes ≡ Err Overlong → vlong_at (bytes ++ more) ≡ Err Overlong
+pub vlong_at-overlong : (bytes more : List ℕ) → vlong_at bytes ≡ Err Overlong → vlong_at (bytes ++ more) ≡ Err Overlong
 vlong_at-overlong [] more e = let one = vlong_at_nil in absurd cc
 vlong_at-overlong (first ∷ rest) more e =
     elim (cases_lt first 128) [
@@ -149,3 +143,47 @@ BeginsWithNone-short bytes more m e few = let is = vlong_at-short bytes more m e
 -- what is overlong begins no number, whatever follows
 pub BeginsWithNone-overlong : (bytes more : List ℕ) → vlong_at bytes ≡ Err Overlong → BeginsWithNone (bytes ++ more)
 BeginsWithNone-overlong bytes more e = BeginsWithNone-fault (bytes ++ more) Overlong (vlong_at-overlong bytes more e)
+
+-- a number that was read stays, whatever follows
+pub vlong_at-append : (bytes more : List ℕ) (x : ℤ × ℕ) → IsBytes bytes → vlong_at bytes ≡ Ok x → vlong_at (bytes ++ more) ≡ Ok x
+vlong_at-append bytes more x fits e =
+    let is = IsVlong-vlong_at bytes x.0 x.1 fits e in
+    let rest = drop x.1 bytes in
+    let alone : vlong_at bytes ≡ Ok (x.0, length (vlong x.0)) = ap vlong_at is.parts ∙ vlong_at-vlong x.0 rest is.fits in
+    let behind : vlong_at (bytes ++ more) ≡ Ok (x.0, length (vlong x.0)) =
+    ap vlong_at (ap (λ (t : List ℕ). t ++ more) is.parts ∙ append_assoc (vlong x.0) rest more) ∙ vlong_at-vlong x.0 (rest ++ more) is.fits in
+    behind ∙ sym alone ∙ e
+
+-- what a number can be refused for
+abbrev pub IsNumberFault : WireError → Type 0
+IsNumberFault (Short missing) = Unit {0}
+IsNumberFault Overlong = Unit {0}
+IsNumberFault (BadWire tag) = ⊥
+IsNumberFault NoMemory = ⊥
+
+stored_at_fault : (k least : ℕ) (bytes : List ℕ) (d : WireError) → stored_at k least bytes ≡ Err d → IsNumberFault d
+unfolding stored_at
+stored_at_fault k least bytes d e =
+    let number = big_from 0 k bytes in
+    let wrong = is_wrong k least number in
+    elim (chosen (ltb (length bytes) k) (Err (Short (k - length bytes))) (cond wrong (Err Overlong) (Ok number)) (Err d) e) [
+      | inl t ↦ let is = t.1 in let same : Short (k - length bytes) ≡ d = cc in subst IsNumberFault same tt
+      | inr f ↦ elim (chosen wrong (Err Overlong) (Ok number) (Err d) f.1) [
+        | inl g ↦ let is = g.1 in let same : Overlong ≡ d = cc in subst IsNumberFault same tt
+        | inr g ↦ let bad = g.1 in absurd cc
+      ]
+    ]
+
+pub IsNumberFault-vlong_at : (bytes : List ℕ) (d : WireError) → vlong_at bytes ≡ Err d → IsNumberFault d
+IsNumberFault-vlong_at [] d e = let one = vlong_at_nil in let same : Short 1 ≡ d = cc in subst IsNumberFault same tt
+IsNumberFault-vlong_at (first ∷ rest) d e =
+    elim (cases_lt first 128) [
+      | inl a ↦ let is = vlong_at_low first rest a in absurd cc
+      | inr a' ↦ elim (cases_lt first 136) [
+        | inl b ↦ stored_at_fault (136 - first) 112 rest d (read_as_err negsuc (136 - first) _ d (sym (vlong_at_negsuc first rest a' b) ∙ e))
+        | inr b' ↦ elim (cases_lt first 144) [
+          | inl c ↦ stored_at_fault (144 - first) 128 rest d (read_as_err pos (144 - first) _ d (sym (vlong_at_pos first rest b' c) ∙ e))
+          | inr c' ↦ let is = vlong_at_high first rest c' in absurd cc
+        ]
+      ]
+    ]

@@ -82,6 +82,13 @@ impl Blob {
         self.bytes.extend_from_slice(bytes)
     }
 
+    /// Makes room for so many more bytes, which are then added without another growth. The bytes stay as they are.
+    pub fn reserve(&mut self, more: usize) -> Result<(), NoMemory>
+        ensures { self.new ≡ self.old }
+    {
+        self.bytes.reserve(more)
+    }
+
     /// Drops the bytes behind the first `len`. It takes no memory.
     pub fn truncate(&mut self, len: usize)
         ensures { self.new ≡ take len self.old }

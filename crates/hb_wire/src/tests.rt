@@ -9,6 +9,7 @@ const PIECES: [&[u8]; 4] = [b"", b"a", b"bc", &[7; 5000]];
 fn keeps_bytes(rt: HostRuntime) -> Result<(), Fail> {
     for piece in PIECES {
         let mut blob = Blob::copy_of(rt.alloc(), b"ab")?;
+        blob.reserve(piece.len())?;
         blob.add(piece)?;
         assert_eq!(rt; blob.len(), 2 + piece.len());
         let copy = Blob::copy_of(rt.alloc(), piece)?.copy()?;
