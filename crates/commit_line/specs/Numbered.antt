@@ -5,10 +5,11 @@ use Rattle.commit_line.specs.declared.error.BadText.{BadText}
 use Rattle.commit_line.specs.declared.error.ListError.{ListError}
 use Rattle.commit_line.specs.declared.error.ListError.TheVariants.{BadList, NoMemory}
 use Rattle.commit_line.specs.Line.{ended, IsNumber}
+use Rattle.commit_line.specs.declared.line.TheConstants.{MAX_NUMBER}
 
 -- the number of a list or set: 1 to 2 ^ 63 - 1
 abbrev pub IsListNumber : ℕ → Type 0
-IsListNumber = IsNumber 1 9_223_372_036_854_775_807
+IsListNumber = IsNumber 1 MAX_NUMBER
 
 -- the bytes begin with a text, a number of a list or set that is another than this, and a line feed
 pub record HasOtherNumber (text : List ℕ) (number : ℕ) (bytes : List ℕ) : Type 0 where

@@ -5,7 +5,7 @@ pub mod error;
 pub mod line;
 
 pub use error::{BadText, ListError};
-pub use line::{check_number, read_number, word_end};
+pub use line::{MAX_NUMBER, check_number, read_number, word_end};
 
 #[cfg(test)]
 mod tests;

@@ -62,13 +62,13 @@ pub fn read_number(
 }
 
 /// The greatest number of a list or set.
-const MAX: u64 = 9_223_372_036_854_775_807;
+pub const MAX_NUMBER: u64 = 9_223_372_036_854_775_807;
 
 /// Refuses bytes that begin with a text, another number than this and a line feed, at place 0.
 pub fn check_number(text: &'static [u8], number: u64, bytes: &[u8]) -> Result<(), BadText>
     ensures { IsNumberChecked text.now number bytes.now result }
 {
-    match read_number(text, 1, MAX, bytes, 0) {
+    match read_number(text, 1, MAX_NUMBER, bytes, 0) {
         Ok((other, _)) => {
             if other == number {
                 Ok(())

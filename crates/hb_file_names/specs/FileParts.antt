@@ -3,6 +3,7 @@ use Rattle.std.specs.Int.{w64, to_be_bytes}
 use Rattle.std.specs.Fmt.{decimal}
 use Rattle.hex.specs.Hex.{encode_lower}
 use Rattle.hb_file_names.specs.declared.file_parts.FileParts.{FileParts}
+use Rattle.hb_file_names.specs.declared.file_parts.TheConstants.{MAX_SEQ}
 
 -- a number of 64 bits as 16 lower-case hexadecimal digits
 abbrev pub sixteen_digits : ℕ → List ℕ
@@ -19,4 +20,4 @@ file_text parts = sixteen_digits parts.epoch ++ (sixteen_digits parts.counter ++
 
 -- a sequence number, where there is one, is at most 2 ^ 63 - 1
 abbrev pub HasSeqInLimit : FileParts → Type 0
-HasSeqInLimit parts = IfSome parts.seq (λ seq. seq ≤ 9_223_372_036_854_775_807)
+HasSeqInLimit parts = IfSome parts.seq (λ seq. seq ≤ MAX_SEQ)

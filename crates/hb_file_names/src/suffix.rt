@@ -5,6 +5,7 @@ ghost use Rattle.hb_grammar.specs.Grammar.{Same};
 ghost use Rattle.hb_file_names.specs.FileName.{IsSuffix};
 ghost use Rattle.hb_file_names.specs.FileParts.{suffix_text};
 
+use crate::file_parts::MAX_SEQ;
 use hb_grammar::{Between, Either, End, Grammar, Literal, Then, Until, number_of};
 use hb_wire::{Blob, NoMemory};
 use std::alloc::Global;
@@ -20,7 +21,7 @@ pub struct SuffixGrammar {
 fn suffix_parts() -> SuffixParts
     ensures { Same (⟦<SuffixParts as Grammar>⟧.spells result) IsSuffix }
 {
-    let number = Until::new(Between::new(0, 9_223_372_036_854_775_807), b'_');
+    let number = Until::new(Between::new(0, MAX_SEQ), b'_');
     let seq = Then::new(Literal { text: b"_SeqId_" }, number);
     Either::new(End, seq)
 }
@@ -55,7 +56,7 @@ impl Grammar for SuffixGrammar {
 pub fn seq_of(suffix: &[u8]) -> Option<u64>
     requires { IsSuffix suffix.now }
     ensures text { suffix_text result ≡ suffix.now }
-    ensures limit { IfSome result (λ seq. seq ≤ 9_223_372_036_854_775_807) }
+    ensures limit { IfSome result (λ seq. seq ≤ MAX_SEQ) }
 {
     if suffix.is_empty() {
         return None;

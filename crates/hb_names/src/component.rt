@@ -4,15 +4,19 @@ ghost use Rattle.std.specs.Prelude.{◌≡◌, ◌≤◌, true};
 ghost use Rattle.hb_grammar.specs.Grammar.{Same};
 ghost use Rattle.hb_names.specs.Component.{IsComponent};
 ghost use Rattle.hb_names.specs.ComponentGrammar.{ComponentAfter};
+ghost use Rattle.hb_names.specs.declared.component.TheConstants.{MAX_COMPONENT};
 
 use hb_grammar::{Class, Grammar};
+
+/// The greatest length of a component.
+pub const MAX_COMPONENT: usize = 255;
 
 /// 1 to 255 letters, digits and `_ - . =`, but neither `.` nor `..`.
 #[derive(Clone, Copy)]
 pub struct ComponentGrammar {
     read: usize,
     dots: bool,
-    ghost within: { read ≤ 255 },
+    ghost within: { read ≤ MAX_COMPONENT },
 }
 
 impl ComponentGrammar {
@@ -35,7 +39,7 @@ impl Grammar for ComponentGrammar {
     ghost completes = { λ component. IsLive-ComponentAfter component.read component.dots component.within };
 
     fn step(self, byte: u8) -> Option<ComponentGrammar> {
-        if self.read == 255 {
+        if self.read == MAX_COMPONENT {
             return None;
         }
         if !Class::Component.has(byte) {

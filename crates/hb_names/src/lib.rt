@@ -21,7 +21,7 @@ mod tests;
 pub use encoded::Encoded;
 pub use error::{BadName, NameError};
 pub use family_name::FamilyName;
-pub use place::{Place, places_are_components};
+pub use place::{MAX_COMPONENTS, Place, places_are_components};
 pub use region_name::{RegionName, encode_region};
 pub use snap_name::SnapName;
 pub use table_name::TableName;

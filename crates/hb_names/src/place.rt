@@ -13,6 +13,9 @@ use hb_wire::{Blob, Copied, NoMemory};
 use std::alloc::Global;
 use std::marker::Model;
 
+/// The greatest count of components of a place.
+pub const MAX_COMPONENTS: usize = 16;
+
 type PlaceGrammar = Separated<ComponentGrammar>;
 
 /// Where a file stands: 1 to 16 components joined by `/`. A component has 1 to 255 letters, digits and
@@ -38,7 +41,7 @@ impl Model for Place {
 fn place_grammar() -> PlaceGrammar
     ensures { Same (⟦<PlaceGrammar as Grammar>⟧.spells result) IsPlace }
 {
-    Separated::new(ComponentGrammar::new(), b'/', 15)
+    Separated::new(ComponentGrammar::new(), b'/', MAX_COMPONENTS - 1)
 }
 
 impl Place {

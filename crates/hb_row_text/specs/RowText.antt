@@ -1,5 +1,6 @@
 use Rattle.std.specs.Prelude.{◌≡◌, ℕ, ◌≤◌, List, [], ◌∷◌, length}
 use Rattle.hex.specs.Hex.{IsBytes, encode_lower}
+use Rattle.hb_row_text.specs.declared.row_text.TheConstants.{MAX_ROW}
 
 -- a row key as text: its bytes in lower-case hexadecimal, and - where there is none; 45 is -
 abbrev pub row_text : List ℕ → List ℕ
@@ -10,5 +11,5 @@ row_text (byte ∷ bytes) = encode_lower (byte ∷ bytes)
 pub record IsRowText (bytes : List ℕ) : Type 0 where
   pub row : List ℕ
   pub small : IsBytes row
-  pub limit : length row ≤ 32767
+  pub limit : length row ≤ MAX_ROW
   pub whole : bytes ≡ row_text row

@@ -10,4 +10,4 @@ mod tests;
 
 pub use grammar::{RowGrammar, row_grammar};
 pub use next::{has_next_row, next_row};
-pub use row_text::{read_row, write_row};
+pub use row_text::{MAX_ROW, read_row, write_row};

@@ -3,16 +3,17 @@
 ghost use Rattle.std.specs.Prelude.{◌≡◌, ◌≢◌, ◌↔◌, ◌≤◌, ◌<◌, ◌-◌, length, take, slice_index, None, IfOk, IsTrue};
 ghost use Rattle.hb_row_text.specs.NextRow.{next_row, IsNext};
 
+use crate::row_text::MAX_ROW;
 use hb_wire::{Blob, NoMemory};
 use std::alloc::Global;
 
 /// The least row key above `row`, or none where no row key of at most 32,767 bytes is above it.
 pub fn next_row(alloc: Global, row: &[u8]) -> Result<Option<Blob>, NoMemory>
-    requires { length row.now ≤ 32767 }
-    ensures next { IfOk result (λ next. next ≡ next_row 32767 row.now) }
-    ensures least { IfOk result (λ next. IsNext 32767 row.now next) }
+    requires { length row.now ≤ MAX_ROW }
+    ensures next { IfOk result (λ next. next ≡ next_row MAX_ROW row.now) }
+    ensures least { IfOk result (λ next. IsNext MAX_ROW row.now next) }
 {
-    if row.len() == 32_767 {
+    if row.len() == MAX_ROW {
         return next_as_long(alloc, row);
     }
     let mut next = Blob::copy_of(alloc, row)?;
@@ -22,10 +23,10 @@ pub fn next_row(alloc: Global, row: &[u8]) -> Result<Option<Blob>, NoMemory>
 
 /// Whether a row key of at most 32,767 bytes is above `row`. It takes no memory.
 pub fn has_next_row(row: &[u8]) -> bool
-    requires { length row.now ≤ 32767 }
-    ensures { IsTrue result ↔ (next_row 32767 row.now ≢ None) }
+    requires { length row.now ≤ MAX_ROW }
+    ensures { IsTrue result ↔ (next_row MAX_ROW row.now ≢ None) }
 {
-    if row.len() < 32_767 {
+    if row.len() < MAX_ROW {
         return true;
     }
     kept_of(row) > 0

@@ -7,12 +7,15 @@ ghost use Rattle.hb_row_text.specs.RowText.{row_text, IsRowText};
 use hb_wire::{Blob, NoMemory};
 use std::alloc::{AllocError, Global};
 
+/// The greatest length of a row key.
+pub const MAX_ROW: usize = 32_767;
+
 /// The row key of a text. It fails for want of memory alone.
 pub fn read_row(alloc: Global, text: &[u8]) -> Result<Blob, NoMemory>
     requires { IsRowText text.now }
     ensures text { IfOk result (λ row. row_text row ≡ text.now) }
     ensures small { IfOk result (λ row. IsBytes row) }
-    ensures limit { IfOk result (λ row. length row ≤ 32767) }
+    ensures limit { IfOk result (λ row. length row ≤ MAX_ROW) }
 {
     if text.len() == 1 {
         return Ok(Blob::from_vec(Vec::new(alloc)));

@@ -1,7 +1,7 @@
 pub mod Ascending
 pub mod Below
 pub mod Entries
-pub mod Laws
+pub mod CallLaws
 pub mod Leads
 pub mod Moved
 pub mod Pieces

@@ -2,6 +2,7 @@
 use Rattle.std.specs.Prelude.{ℕ, ◌+◌, ◌==◌, List, ◌++◌, length, drop, count_by, Bool, ◌||◌, cond, codes, nat_eq, nat_lt}
 use Rattle.std.specs.List.{starts_with}
 use Rattle.std.specs.Cmp.Lexicographic.{pointwise}
+use Rattle.hb_names.specs.declared.place.TheConstants.{MAX_COMPONENTS}
 
 -- whether a place lies below a directory: its text begins with the directory's text and a slash
 unfoldable pub is_below : List ℕ → List ℕ → Bool
@@ -17,7 +18,7 @@ component_count place = count_by (λ byte. byte == 47) place + 1
 
 -- whether a place would have more components than a place may have
 abbrev pub is_too_deep : List ℕ → Bool
-is_too_deep place = nat_lt 16 (component_count place)
+is_too_deep place = nat_lt MAX_COMPONENTS (component_count place)
 
 -- where a file goes when `from` becomes `to`: to the same place below `to` that it has below `from`
 abbrev pub target_of : List ℕ → List ℕ → List ℕ → List ℕ

@@ -7,6 +7,7 @@
 pub mod file;
 pub mod file_bytes;
 mod files;
+pub mod laws;
 pub mod mem;
 mod moves;
 pub mod namespace;

@@ -9,11 +9,9 @@ ghost use Rattle.ns_tree.specs.Tree.{IsTree};
 
 use crate::files::Files;
 use crate::places::component_count;
-use hb_names::Place;
+use hb_names::{MAX_COMPONENTS, Place};
 use hb_wire::{Blob, Copied, Items, NoMemory};
 use std::alloc::Global;
-
-const MOST_COMPONENTS: usize = 16;
 
 /// A file's text and where it goes.
 #[derive(Drop)]
@@ -58,7 +56,7 @@ pub(crate) fn has_too_deep(moves: &[Move]) -> bool
 {
     moves
         .iter()
-        .any(|m| component_count(m.new.as_slice()) > MOST_COMPONENTS)
+        .any(|m| component_count(m.new.as_slice()) > MAX_COMPONENTS)
 }
 
 impl Files {

@@ -1,4 +1,4 @@
-use Rattle.std.proofs.Common.{◌-◌, ◌∙◌, arith}
+use Rattle.std.proofs.Common.{◌∙◌, arith}
 use Rattle.hb_row_text.proofs.NextRowLemmas.{next_row-cut}
 use Rattle.hb_row_text.proofs.next.kept_of.Goals as goal
 
