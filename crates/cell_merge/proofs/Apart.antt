@@ -19,28 +19,8 @@ use Rattle.cell_sight.proofs.SeenParts.{seen_by}
 use Rattle.cell_sight.proofs.ShownExactly.{shows_exactly, ascends}
 use Rattle.cell_sight.proofs.Sorting.{Ordered}
 use Rattle.cell_merge.proofs.Places.{Ahead, family_back, family_on, family_own}
-use Rattle.cell_merge.proofs.Puts.{any_some, some_any}
-
-left : (a b : Bool) → (a && b) ≡ true → a ≡ true
-left true b h = refl
-left false b h = absurd (cc)
-
-right : (a b : Bool) → (a && b) ≡ true → b ≡ true
-right true b h = h
-right false b h = absurd (cc)
-
-turn : (b : Bool) → not b ≡ true → b ≡ false
-turn true h = absurd (cc)
-turn false h = refl
-
-never : (b : Bool) → (b ≡ true → ⊥) → b ≡ false
-never true h = absurd (h refl)
-never false h = refl
-
-equal : (a b : Bool) → (a ≡ true → b ≡ true) → (b ≡ true → a ≡ true) → a ≡ b
-equal true b h k = sym (h refl)
-equal false true h k = k refl
-equal false false h k = refl
+use Rattle.cell_sight.proofs.Truths.{any_some, some_any}
+use Rattle.cell_sight.proofs.Truths.{left, right, turn, never, equal}
 
 filter-none : {X : Type 0} (p : X → Bool) (xs : List X) → ((x : X) → Member x xs → p x ≡ false) → filter p xs ≡ []
 filter-none p [] h = refl

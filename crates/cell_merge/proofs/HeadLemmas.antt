@@ -20,6 +20,7 @@ use Rattle.cell_sight.proofs.Sorting.{all_above}
 use Rattle.cell_sight.proofs.Versions.{turned}
 use Rattle.cell_merge.specs.declared.head.Head.{Head}
 use Rattle.cell_merge.specs.Heads.{left_of, all_left, head_cmp, AreInOrder}
+use Rattle.cell_sight.proofs.Truths.{both}
 
 count-all_left : (p : Cell → Bool) (heads : List Head) → count_by p (all_left heads) ≡ sum_by (λ head. count_by p (left_of head)) heads
 count-all_left p [] = refl
@@ -30,9 +31,6 @@ count-all_left p (head ∷ heads) =
 -- heads in another order have the same cells left
 pub same_left : (heads others : List Head) → IsPermutation heads others → Same (all_left others) (all_left heads)
 same_left heads others m = record { at = λ p. count-all_left p others ∙ sum_by-IsPermutation (λ head. count_by p (left_of head)) heads others m ∙ sym (count-all_left p heads) }
-
-both : (a b : Bool) → a ≡ true → b ≡ true → (a && b) ≡ true
-both a b h k = ap (λ x. x && b) h ∙ k
 
 -- none of the cells left is below that of a head that no other one is above
 below_all : (top : Head) (heads : List Head) → IsUpperBound head_cmp top heads → AreInOrder heads

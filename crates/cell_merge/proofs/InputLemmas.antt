@@ -14,6 +14,7 @@ use Rattle.cell_sight.proofs.Sorting.{Ordered, all_above}
 use Rattle.cell_sight.proofs.Versions.{turned}
 use Rattle.cell_merge.specs.declared.input.Input.{Input}
 use Rattle.cell_merge.specs.Input.{keeps, numbered, all_cells}
+use Rattle.cell_sight.proofs.Truths.{both}
 
 map-numbered_none : (cells : List Cell) → map (numbered None) cells ≡ cells
 map-numbered_none [] = refl
@@ -38,9 +39,6 @@ pub whole_in_order : (half : Option (List ℕ × Bool)) (seq : Option ℕ) (cell
 whole_in_order (Some half) seq cells g h o = absurd (cc)
 whole_in_order None (Some n) cells g h o = absurd (cc)
 whole_in_order None None cells g h o = sym o ∙ ap sorted (sym (filter-keeps_none cells) ∙ sym (map-numbered_none (filter (keeps None) cells)))
-
-both : (a b : Bool) → a ≡ true → b ≡ true → (a && b) ≡ true
-both a b h k = ap (λ x. x && b) h ∙ k
 
 behind : (x : Cell) (ys : List Cell) (k : ℕ) (d : Cell) → get_or (x ∷ ys) (k + 1) d ≡ get_or ys k d
 behind x ys k d = rw add-one refl

@@ -12,17 +12,7 @@ use Rattle.cell_merge.specs.Kept.{is_hidden, wider}
 use Rattle.cell_merge.proofs.Places.{Ahead, family_back, family_on, column_back, column_on, between_family, between_column, ts_falls}
 use Rattle.cell_merge.proofs.Streaming.{any-push, is_wide, by_family, by_column}
 use Rattle.cell_merge.proofs.Winners.{AllAhead}
-
-left : (a b : Bool) → (a && b) ≡ true → a ≡ true
-left true b h = refl
-left false b h = absurd (cc)
-
-right : (a b : Bool) → (a && b) ≡ true → b ≡ true
-right true b h = h
-right false b h = absurd (cc)
-
-both : (a b : Bool) → a ≡ true → b ≡ true → (a && b) ≡ true
-both a b h k = ap (λ x. x && b) h ∙ k
+use Rattle.cell_sight.proofs.Truths.{left, right, both}
 
 pub member_left : {X : Type 0} (x : X) (xs ys : List X) → Member x xs → Member x (xs ++ ys)
 member_left x [] ys m = absurd m

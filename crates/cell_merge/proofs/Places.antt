@@ -11,17 +11,7 @@ use Rattle.hb_cell.specs.Order.{bytes_cmp, same_bytes, column_cmp, version_cmp, 
 use Rattle.hb_cell.proofs.SameKeys.{bytes_cmp-same}
 use Rattle.cell_sight.proofs.ShownExactly.{tied}
 use Rattle.cell_sight.proofs.Versions.{tied_bytes, tied_numbers, same_bytes-true, same_bytes-from}
-
-left : (a b : Bool) → (a && b) ≡ true → a ≡ true
-left true b h = refl
-left false b h = absurd (cc)
-
-right : (a b : Bool) → (a && b) ≡ true → b ≡ true
-right true b h = h
-right false b h = absurd (cc)
-
-both : (a b : Bool) → a ≡ true → b ≡ true → (a && b) ≡ true
-both a b h k = ap (λ x. x && b) h ∙ k
+use Rattle.cell_sight.proofs.Truths.{left, right, both}
 
 -- equal row and family, and equal qualifier
 pub record InFamily (a b : Cell) : Type 0 where

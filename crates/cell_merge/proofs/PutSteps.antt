@@ -16,29 +16,7 @@ use Rattle.cell_merge.proofs.Winners.{AllAhead, has_version, wins, winners-push,
 use Rattle.cell_merge.proofs.Marks.{ahead_left, ahead_last, member_left, member_last}
 use Rattle.cell_merge.proofs.Puts.{count_push, none_left, all_newer, survives_before, survives_narrow, survived, append-none, winners_in, same_count, no_older, versions_same, apart_push, member_parts, last_push, in_column_of, ends_at, shown_at, Puts, is_held}
 use Rattle.std.specs.Prelude.{count_by}
-
-left : (a b : Bool) → (a && b) ≡ true → a ≡ true
-left true b h = refl
-left false b h = absurd (cc)
-
-right : (a b : Bool) → (a && b) ≡ true → b ≡ true
-right true b h = h
-right false b h = absurd (cc)
-
-both : (a b : Bool) → a ≡ true → b ≡ true → (a && b) ≡ true
-both a b h k = ap (λ x. x && b) h ∙ k
-
-turn : (b : Bool) → not b ≡ true → b ≡ false
-turn true h = absurd (cc)
-turn false h = refl
-
-turned : (b : Bool) → not b ≡ false → b ≡ true
-turned true h = refl
-turned false h = absurd (cc)
-
-never : (b : Bool) → (b ≡ true → ⊥) → b ≡ false
-never true h = absurd (h refl)
-never false h = refl
+use Rattle.cell_sight.proofs.Truths.{left, right, both, turn, turned, never}
 
 not_wide : (k : Kind) → is_put k ≡ true → is_wide k ≡ false
 not_wide Put h = refl

@@ -21,6 +21,7 @@ use Rattle.cell_merge.proofs.Puts.{Puts, no_puts, puts_narrow, puts_wide, ends_a
 use Rattle.cell_merge.proofs.PutSteps.{put_held, put_dropped}
 use Rattle.cell_merge.proofs.Streaming.{is_wide, by_column, is_candidate, survives, visible-survives}
 use Rattle.cell_merge.proofs.Winners.{AllAhead}
+use Rattle.cell_sight.proofs.Truths.{left, turn, turned, never}
 
 pub record Holds (families : List (List ℕ × ℕ)) (cells : List Cell) (kept : Kept) : Type 0 where
   pub puts : Puts families cells kept.held kept.shown kept.family
@@ -28,22 +29,6 @@ pub record Holds (families : List (List ℕ × ℕ)) (cells : List Cell) (kept :
 
 none_held : (families : List (List ℕ × ℕ)) → Holds families [] empty
 none_held families = record { puts = no_puts families; marks = no_marks }
-
-turned : (b : Bool) → not b ≡ false → b ≡ true
-turned true h = refl
-turned false h = absurd (cc)
-
-turn : (b : Bool) → not b ≡ true → b ≡ false
-turn true h = absurd (cc)
-turn false h = refl
-
-never : (b : Bool) → (b ≡ true → ⊥) → b ≡ false
-never true h = absurd (h refl)
-never false h = refl
-
-left : (a b : Bool) → (a && b) ≡ true → a ≡ true
-left true b h = refl
-left false b h = absurd (cc)
 
 -- the tests of the code are those of the definitions
 tests_agree : (families : List (List ℕ × ℕ)) (cells : List Cell) (kept : Kept) (c : Cell) → is_put c.kind ≡ true → AllAhead cells c → Holds families cells kept

@@ -14,17 +14,7 @@ use Rattle.cell_sight.specs.Visible.{is_put, same_version, is_newer, unhidden, f
 use Rattle.cell_sight.proofs.SeenParts.{firsts-filter, newest-filter}
 use Rattle.cell_sight.proofs.Versions.{alike, Alike}
 use Rattle.cell_merge.proofs.Places.{column_family, family_on}
-
-left : (a b : Bool) → (a && b) ≡ true → a ≡ true
-left true b h = refl
-left false b h = absurd (cc)
-
-right : (a b : Bool) → (a && b) ≡ true → b ≡ true
-right true b h = h
-right false b h = absurd (cc)
-
-both : (a b : Bool) → a ≡ true → b ≡ true → (a && b) ≡ true
-both a b h k = ap (λ x. x && b) h ∙ k
+use Rattle.cell_sight.proofs.Truths.{left, right, both, turn}
 
 -- ---- lists
 
@@ -141,10 +131,6 @@ any-then f g (x ∷ xs) h k = by (f x) (g x) (h x) (λ e. any-then f g xs h e) k
     by true false i r e = let j = i refl in absurd (cc)
     by false true i r e = absurd (cc)
     by false false i r e = r e
-
-turn : (b : Bool) → not b ≡ true → b ≡ false
-turn true h = absurd (cc)
-turn false h = refl
 
 survives_newer : (cells : List Cell) (d c : Cell) → is_newer d c ≡ true → survives cells c ≡ true → survives cells d ≡ true
 survives_newer cells d c n h = ap not (any-then (λ m. by_family m d) (λ m. by_family m c) cells (λ m k. wide_older m.kind m d c n k) (turn _ h))

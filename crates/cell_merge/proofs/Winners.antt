@@ -17,22 +17,11 @@ use Rattle.cell_sight.proofs.SeenAgain.{no_hider}
 use Rattle.cell_sight.proofs.Versions.{alike, alike_back, from_alike}
 use Rattle.cell_merge.proofs.Places.{Ahead, column_back, ts_falls, code_falls}
 use Rattle.cell_merge.proofs.Streaming.{filter-same, any-push, is_wide, by_column, is_candidate, candidates, winners}
-
-left : (a b : Bool) → (a && b) ≡ true → a ≡ true
-left true b h = refl
-left false b h = absurd (cc)
-
-right : (a b : Bool) → (a && b) ≡ true → b ≡ true
-right true b h = h
-right false b h = absurd (cc)
+use Rattle.cell_sight.proofs.Truths.{left, right, never}
 
 -- all of the cells stand before one
 abbrev pub AllAhead : List Cell → Cell → Type 0
 AllAhead cells c = (d : Cell) → Member d cells → Ahead d c
-
-never : (b : Bool) → (b ≡ true → ⊥) → b ≡ false
-never true h = absurd (h refl)
-never false h = refl
 
 put_code : (k : Kind) → is_put k ≡ true → code k ≡ 4
 put_code Put h = refl

@@ -1,3 +1,4 @@
+pub mod Truths
 pub mod Counts
 pub mod Sorting
 pub mod InOrder

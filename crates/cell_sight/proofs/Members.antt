@@ -7,14 +7,7 @@ use Rattle.hb_cell.specs.declared.cell.Cell.{Cell}
 use Rattle.hb_cell.specs.Order.{key_cmp}
 use Rattle.cell_sight.specs.Member.{Member}
 use Rattle.cell_sight.specs.Same.{in_place, sorted}
-
-left : (a b : Bool) → (a && b) ≡ true → a ≡ true
-left true b h = refl
-left false b h = absurd (cc)
-
-right : (a b : Bool) → (a && b) ≡ true → b ≡ true
-right true b h = h
-right false b h = absurd (cc)
+use Rattle.cell_sight.proofs.Truths.{left, right}
 
 module _ {X : Type 0} where
   pub of_filter : (p : X → Bool) (c : X) (xs : List X) → Member c (filter p xs) → Member c xs × (p c ≡ true)

@@ -20,14 +20,7 @@ use Rattle.cell_sight.proofs.InOrder.{sorted-ordered}
 use Rattle.cell_sight.proofs.Members.{of_filter, of_all, all_by}
 use Rattle.cell_sight.proofs.ShownExactly.{ascends, shows_exactly}
 use Rattle.cell_sight.proofs.Sorting.{Ordered}
-
-left : (a b : Bool) → (a && b) ≡ true → a ≡ true
-left true b h = refl
-left false b h = absurd (cc)
-
-right : (a b : Bool) → (a && b) ≡ true → b ≡ true
-right true b h = h
-right false b h = absurd (cc)
+use Rattle.cell_sight.proofs.Truths.{left, right}
 
 filter-all : {X : Type 0} (p : X → Bool) (xs : List X) → list_all p xs ≡ true → filter p xs ≡ xs
 filter-all p [] h = refl

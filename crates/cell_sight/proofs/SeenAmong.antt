@@ -1,5 +1,5 @@
 -- What is visible of a whole is visible among any part that has it and all that hides.
-use Rattle.std.proofs.Common.{◌≡◌, ℕ, ◌+◌, ◌≤◌, Bool, true, false, cond, not, ◌&&◌, ◌||◌, List, [], ◌∷◌, length, inl, inr, refl, sym, ap, ◌∙◌, subst, arith}
+use Rattle.std.proofs.Common.{◌≡◌, ℕ, ◌+◌, ◌≤◌, Bool, true, false, cond, not, ◌&&◌, List, [], ◌∷◌, length, inl, inr, refl, sym, ap, ◌∙◌, subst, arith}
 use Rattle.std.specs.Prelude.{filter, nat_eq, nat_lt}
 use Rattle.std.specs.Cmp.Lexicographic.{pointwise}
 use Rattle.std.specs.List.{list_any, list_all}
@@ -17,39 +17,7 @@ use Rattle.cell_sight.specs.VisibleLaws.{IsUnhidden, IsWinner, Rises, IsOutdated
 use Rattle.cell_sight.proofs.Members.{of_filter, in_filter, of_all, all_by}
 use Rattle.cell_sight.proofs.ShownExactly.{shows_exactly, in_unhidden, of_winners, ordered_unhidden, rises_filter, rises_firsts, newer_of}
 use Rattle.cell_sight.proofs.Versions.{alike, from_alike, alike_back, alike_itself, not_behind}
-
-left : (a b : Bool) → (a && b) ≡ true → a ≡ true
-left true b h = refl
-left false b h = absurd (cc)
-
-right : (a b : Bool) → (a && b) ≡ true → b ≡ true
-right true b h = h
-right false b h = absurd (cc)
-
-both : (a b : Bool) → a ≡ true → b ≡ true → (a && b) ≡ true
-both a b h k = ap (λ x. x && b) h ∙ k
-
-turn : (b : Bool) → not b ≡ true → b ≡ false
-turn true h = absurd (cc)
-turn false h = refl
-
-never : (b : Bool) → (b ≡ true → ⊥) → b ≡ false
-never true h = absurd (h refl)
-never false h = refl
-
-any_some : {X : Type 0} (f : X → Bool) (xs : List X) → list_any f xs ≡ true → (x : X) × Member x xs × (f x ≡ true)
-any_some f [] h = absurd (cc)
-any_some f (x ∷ xs) h = by (λ k. any_some f xs k) (f x) refl h
-  where
-    by : (list_any f xs ≡ true → (x : _) × Member x xs × (f x ≡ true)) → (b : Bool) → f x ≡ b → (b || list_any f xs) ≡ true
-        → (y : _) × Member y (x ∷ xs) × (f y ≡ true)
-    by rest true e h = (x, inl refl, e)
-    by rest false e h = let k = rest h in (k.0, inr k.1, k.2)
-
-some_any : {X : Type 0} (f : X → Bool) (xs : List X) (x : X) → Member x xs → f x ≡ true → list_any f xs ≡ true
-some_any f [] x m h = absurd m
-some_any f (y ∷ ys) x (inl e) h = ap (λ b. b || list_any f ys) (ap f e ∙ h)
-some_any f (y ∷ ys) x (inr m) h = ap (λ b. f y || b) (some_any f ys x m h) ∙ (elim (f y) as (λ b. (b || true) ≡ true) [ true ↦ refl | false ↦ refl ])
+use Rattle.cell_sight.proofs.Truths.{left, turn, never, any_some, some_any}
 
 version_on : (a b c : Cell) → same_version a b ≡ true → same_version b c ≡ true → same_version a c ≡ true
 version_on a b c h k = let f = alike a b h in let g = alike b c k in

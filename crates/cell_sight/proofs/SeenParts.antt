@@ -12,14 +12,7 @@ use Rattle.cell_sight.specs.Visible.{is_put, same_version, versions_of, is_newer
 use Rattle.cell_sight.specs.VisibleLaws.{SameSeen, SeenByRow, SeenByFamily}
 use Rattle.cell_sight.proofs.Filters.{filter-swap, filter-kept, any-filter, count-kept}
 use Rattle.cell_sight.proofs.InOrder.{sorted-same, sorted-filter}
-
-left : (a b : Bool) → (a && b) ≡ true → a ≡ true
-left true b h = refl
-left false b h = absurd (cc)
-
-right : (a b : Bool) → (a && b) ≡ true → b ≡ true
-right true b h = h
-right false b h = absurd (cc)
+use Rattle.cell_sight.proofs.Truths.{left, right}
 
 -- a test that doesn't tell cells of one row and family apart
 abbrev pub Respects : (Cell → Bool) → Type 0

@@ -22,21 +22,7 @@ use Rattle.cell_sight.proofs.Members.{of_filter, in_filter, of_all, all_by, of_s
 use Rattle.hb_cell.proofs.SameKeys.{key_cmp-same}
 use Rattle.cell_sight.proofs.Sorting.{Ordered, ordered-filter}
 use Rattle.cell_sight.proofs.Versions.{alike_back, alike_itself, ahead, not_behind}
-
-left : (a b : Bool) → (a && b) ≡ true → a ≡ true
-left true b h = refl
-left false b h = absurd (cc)
-
-right : (a b : Bool) → (a && b) ≡ true → b ≡ true
-right true b h = h
-right false b h = absurd (cc)
-
-both : (a b : Bool) → a ≡ true → b ≡ true → (a && b) ≡ true
-both a b h k = ap (λ x. x && b) h ∙ k
-
-turn : (b : Bool) → not b ≡ true → b ≡ false
-turn true h = absurd (cc)
-turn false h = refl
+use Rattle.cell_sight.proofs.Truths.{left, right, both, turn}
 
 -- ---- the puts that nothing hides
 

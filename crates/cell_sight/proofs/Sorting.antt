@@ -1,5 +1,5 @@
 -- Insertion into order, and that a list in order is told by its counts.
-use Rattle.std.proofs.Common.{◌≡◌, ℕ, ◌+◌, Bool, true, false, cond, not, ◌&&◌, List, [], ◌∷◌, refl, sym, ap, ◌∙◌, arith}
+use Rattle.std.proofs.Common.{◌≡◌, ℕ, ◌+◌, Bool, true, false, cond, not, List, [], ◌∷◌, refl, sym, ap, ◌∙◌, arith}
 use Rattle.std.specs.Prelude.{count_by, filter}
 use Rattle.std.specs.List.{list_all}
 use Rattle.std.specs.declared.cmp.Ordering.{Ordering}
@@ -7,6 +7,7 @@ use Rattle.std.specs.declared.cmp.Ordering.TheVariants.{Less, Equal, Greater}
 use Rattle.std.specs.Ordering.{is_gt, is_eq, ordering_reverse}
 use Rattle.std.specs.Cmp.{IsTotalOrder, alike_right, tied_itself, upto}
 use Rattle.cell_sight.proofs.Counts.{count-cons, count-none}
+use Rattle.cell_sight.proofs.Truths.{left, right, both, turn}
 
 -- none of the later ones is below an earlier one
 abbrev pub Ordered : {X : Type 0} → (X → X → Ordering) → List X → Type 0
@@ -24,21 +25,6 @@ count-placed R p c (d ∷ ds) = let h = count-placed R p c ds in elim (is_gt (R 
   | true ↦ omega (arith, count-cons p d (placed R c ds), count-cons p d ds, h)
   | false ↦ count-cons p c (d ∷ ds)
 ]
-
-both : (a b : Bool) → a ≡ true → b ≡ true → (a && b) ≡ true
-both a b h k = ap (λ x. x && b) h ∙ k
-
-left : (a b : Bool) → (a && b) ≡ true → a ≡ true
-left true b h = refl
-left false b h = absurd (cc)
-
-right : (a b : Bool) → (a && b) ≡ true → b ≡ true
-right true b h = h
-right false b h = absurd (cc)
-
-turn : (b : Bool) → not b ≡ true → b ≡ false
-turn true h = absurd (cc)
-turn false h = refl
 
 -- what each of a list passes, each of it with one more placed in it passes
 pub all-placed : {X : Type 0} (R : X → X → Ordering) (p : X → Bool) (c : X) (ds : List X) → p c ≡ true → list_all p ds ≡ true → list_all p (placed R c ds) ≡ true

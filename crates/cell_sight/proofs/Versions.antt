@@ -1,5 +1,5 @@
 -- Cells of one column and timestamp, and which of them comes first.
-use Rattle.std.proofs.Common.{◌≡◌, ℕ, ◌<◌, ◌≤◌, Bool, true, false, ◌&&◌, ◌==◌, List, refl, sym, ap, ◌∙◌, arith}
+use Rattle.std.proofs.Common.{◌≡◌, ℕ, ◌<◌, ◌≤◌, true, false, ◌==◌, List, refl, sym, ap, ◌∙◌, arith}
 use Rattle.std.specs.declared.cmp.Ordering.{Ordering}
 use Rattle.std.specs.declared.cmp.Ordering.TheVariants.{Less, Equal, Greater}
 use Rattle.std.specs.Ordering.{nat_cmp, is_gt, is_lt, ordering_then, ordering_reverse, MatchOrdering}
@@ -15,14 +15,7 @@ use Rattle.hb_cell.specs.Order.{bytes_cmp, column_cmp, version_cmp, key_cmp}
 use Rattle.hb_cell.specs.Order.{same_bytes, is_below}
 use Rattle.hb_cell.specs.Hiding.{same_family, same_column}
 use Rattle.cell_sight.specs.Visible.{is_put, same_version}
-
-left : (a b : Bool) → (a && b) ≡ true → a ≡ true
-left true b h = refl
-left false b h = absurd (cc)
-
-right : (a b : Bool) → (a && b) ≡ true → b ≡ true
-right true b h = h
-right false b h = absurd (cc)
+use Rattle.cell_sight.proofs.Truths.{left, right, both}
 
 -- equal column and timestamp
 pub record Alike (a b : Cell) : Type 0 where
@@ -50,9 +43,6 @@ alike a b h =
 
 eqb_own : (n : ℕ) → (n == n) ≡ true
 eqb_own n = eq-eqb n n refl
-
-both : (a b : Bool) → a ≡ true → b ≡ true → (a && b) ≡ true
-both a b h k = ap (λ x. x && b) h ∙ k
 
 pub from_alike : (a b : Cell) → Alike a b → same_version a b ≡ true
 from_alike a b h = both (same_column a b) _ (both (same_family a b) _ (both (same_bytes a.row b.row) _ (same_bytes-from a.row b.row h.row) (same_bytes-from a.family b.family h.family))

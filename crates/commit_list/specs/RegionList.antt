@@ -7,12 +7,13 @@ use Rattle.commit_list.specs.declared.list_entry.ListEntry.{ListEntry}
 use Rattle.commit_list.specs.declared.region_list.RegionList.{RegionList}
 use Rattle.commit_line.specs.Line.{ended, IsNumber, number_line}
 use Rattle.commit_line.specs.Numbered.{IsListNumber}
+use Rattle.commit_line.specs.declared.line.TheConstants.{MAX_NUMBER}
 use Rattle.commit_list.specs.ListEntry.{IsEntry, entry_text}
 
 -- a store list that a file can have: its number is 1 to 2 ^ 63 - 1, its sequence number is at most that
 pub record IsRegionList (list : RegionList) : Type 0 where
   pub number : IsListNumber list.number
-  pub seq : IsNumber 0 9_223_372_036_854_775_807 list.seq
+  pub seq : IsNumber 0 MAX_NUMBER list.seq
   pub entries : AllByRecursion IsEntry list.entries
 
 -- the lines of entries, and the line that ends them

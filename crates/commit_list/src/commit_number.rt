@@ -3,12 +3,10 @@
 ghost use Rattle.std.specs.Prelude.{◌≡◌};
 ghost use Rattle.commit_list.specs.CommitNumber.{IsBehindSlash, HasNoSlash, IsNumberOf, IsNewest, newer};
 
+use commit_line::MAX_NUMBER;
 use hb_grammar::{Between, number_of, scan};
 use hb_names::Place;
 use hb_wire::Items;
-
-/// The greatest number of a commit file.
-const MAX: u64 = 9_223_372_036_854_775_807;
 
 /// The last component of a place.
 fn last_component(place: &[u8]) -> &[u8]
@@ -27,7 +25,7 @@ fn number_of_place(place: &[u8]) -> Option<u64>
     ensures { IsNumberOf place.now result }
 {
     let component = last_component(place);
-    match scan(Between::new(1, MAX), component) {
+    match scan(Between::new(1, MAX_NUMBER), component) {
         Ok(()) => Some(number_of(component)),
         Err(_) => None,
     }

@@ -1,6 +1,6 @@
 //! Entries of store lists.
 
-ghost use Rattle.std.specs.Prelude.{◌≡◌, ◌≤◌, ◌++◌, length, OnOk, true, false, IsTrue, ◌↔◌};
+ghost use Rattle.std.specs.Prelude.{◌≡◌, ◌≤◌, ◌++◌, length, OnOk, IsTrue, ◌↔◌};
 ghost use Rattle.hb_grammar.specs.Grammar.{Same};
 ghost use Rattle.hb_grammar.specs.TextOf.{IsTextOf};
 ghost use Rattle.commit_line.specs.ListError.{IsWordEnd, IsRead};
@@ -103,16 +103,14 @@ fn word_of(kind: EntryKind) -> &'static [u8]
 
 /// Whether the bytes are a string of a grammar.
 fn is_spelled<G: Grammar>(grammar: G, bytes: &[u8]) -> bool
-    ensures yes { result ≡ true → G.spells grammar bytes.now }
-    ensures no { result ≡ false → G.spells grammar bytes.now → ⊥ }
+    ensures { IsTrue result ↔ G.spells grammar bytes.now }
 {
     scan(grammar, bytes).is_ok()
 }
 
 /// Whether the bytes are a name of a kind.
 fn is_name_of(kind: EntryKind, name: &[u8]) -> bool
-    ensures yes { result ≡ true → IsNameOf kind name.now }
-    ensures no { result ≡ false → IsNameOf kind name.now → ⊥ }
+    ensures { IsTrue result ↔ IsNameOf kind name.now }
 {
     match kind {
         EntryKind::Own => is_spelled(file_grammar(), name),

@@ -1,6 +1,6 @@
 //! Store lists of regions.
 
-ghost use Rattle.std.specs.Prelude.{◌≡◌, ◌≤◌, ◌++◌, length, drop, IfOk, IfErr, OnOk, Err, codes, true, false, IsTrue, ◌↔◌};
+ghost use Rattle.std.specs.Prelude.{◌≡◌, ◌≤◌, ◌++◌, length, drop, IfOk, IfErr, OnOk, Err, codes, IsTrue, ◌↔◌};
 ghost use Rattle.std.specs.List.{AllByRecursion};
 ghost use Rattle.hb_grammar.specs.TextOf.{IsTextOf};
 ghost use Rattle.commit_line.specs.ListError.{IsFileRefusal, IsRefusalAt};
@@ -12,13 +12,10 @@ ghost use Rattle.commit_line.specs.Numbered.{HasOtherNumber, IsNumberedRefusal};
 ghost use Rattle.commit_line.specs.declared.error.ListError.TheVariants.{BadList};
 
 use crate::list_entry::{ListEntry, read_entry};
-use commit_line::{ListError, check_number, read_number};
+use commit_line::{ListError, MAX_NUMBER, check_number, read_number};
 use hb_grammar::{Literal, scan};
 use hb_wire::{Blob, Copied, Items, NoMemory};
 use std::alloc::Global;
-
-/// The greatest number of a list, and the greatest sequence number.
-const MAX: u64 = 9_223_372_036_854_775_807;
 
 /// The store list of a region: its number, the greatest sequence number of its files, and its entries in the
 /// order in which they joined.
@@ -53,8 +50,8 @@ fn all_of_list(alloc: Global, bytes: &[u8]) -> Result<RegionList, ListError>
     ensures found { IfOk result (λ list. IsRegionList list × (bytes.now ≡ region_list_text list)) }
     ensures fault { IfErr result (IsFileRefusal IsListFile bytes.now) }
 {
-    let (number, seq_at) = read_number(b"list ", 1, MAX, bytes, 0)?;
-    let (seq, entries_at) = read_number(b"seq ", 0, MAX, bytes, seq_at)?;
+    let (number, seq_at) = read_number(b"list ", 1, MAX_NUMBER, bytes, 0)?;
+    let (seq, entries_at) = read_number(b"seq ", 0, MAX_NUMBER, bytes, seq_at)?;
     let entries = read_entries(alloc, bytes, entries_at)?;
     Ok(RegionList {
         number,
@@ -86,8 +83,7 @@ fn add_entries(text: &mut Blob, entries: &[ListEntry]) -> Result<(), NoMemory>
 
 /// Whether each name is one of its entry's kind.
 fn are_valid(entries: &[ListEntry]) -> bool
-    ensures yes { result ≡ true → AllByRecursion IsEntry entries.now }
-    ensures no { result ≡ false → AllByRecursion IsEntry entries.now → ⊥ }
+    ensures { IsTrue result ↔ AllByRecursion IsEntry entries.now }
 {
     for entry in entries {
         if !entry.is_valid() {
@@ -144,8 +140,8 @@ impl RegionList {
         ensures { IsTrue result ↔ IsRegionList self.now }
     {
         self.number > 0
-            && self.number <= MAX
-            && self.seq <= MAX
+            && self.number <= MAX_NUMBER
+            && self.seq <= MAX_NUMBER
             && are_valid(self.entries.as_slice())
     }
 }

@@ -47,6 +47,24 @@ pub record Sent : Type 0 where
   pub written : Change (Option (List ℕ))
   pub write_faults : Change ℕ
 
+-- what a sink tells of itself, before and after
+abbrev pub sent_of : {O : Type 0} → (O → Option (List ℕ)) → (O → ℕ) → O → O → Sent
+sent_of written faults old new = record {
+  written = record { old = written old; new = written new };
+  write_faults = record { old = faults old; new = faults new };
+}
+
+-- what a source and a store tell of themselves, before and after, and what the words say
+abbrev pub met_of : {I N : Type 0} → (I → Option (List ℕ)) → (I → ℕ) → I → I → (N → ℕ) → (N → Option Tree) → N → N → Result Options WordsError → Met N
+met_of left read_faults old_input new_input ns_faults told old_store new_store words = record {
+  words = words;
+  left = record { old = left old_input; new = left new_input };
+  read_faults = record { old = read_faults old_input; new = read_faults new_input };
+  store = record { old = old_store; new = new_store };
+  ns_faults = record { old = ns_faults old_store; new = ns_faults new_store };
+  told = told old_store;
+}
+
 -- the words were taken, and the input was the script
 abbrev pub WasScript : {N : Type 0} → Met N → Type 0
 WasScript met = IsOk met.words × ReadsScript met.left.old met.left.new

@@ -2,7 +2,7 @@
 ghost use Rattle.std.specs.Prelude.{◌≡◌, ◌≢◌, Err, IfOk, IfErr, drop, map};
 ghost use Rattle.std.specs.String.{string_bytes};
 ghost use Rattle.std.specs.IoError.{error_kind};
-ghost use Rattle.hbase_shell.specs.Run.{IsRun, IsWritten};
+ghost use Rattle.hbase_shell.specs.Run.{IsRun, IsWritten, met_of, sent_of};
 
 use crate::outcome::Outcome;
 use crate::run::{finish, hbase};
@@ -63,28 +63,13 @@ pub fn hbase_program<
     clock: C,
     gate: &G,
 ) -> Outcome<N, P, C>
-    ensures run { IfOk words (λ all. IsRun (map string_bytes (drop 1 all.items)) (λ read. record {
-      words = read;
-      left = record { old = I.left input.old; new = I.left input.new };
-      read_faults = record { old = I.faults input.old; new = I.faults input.new };
-      store = record { old = store; new = result.store };
-      ns_faults = record { old = N.faults store; new = N.faults result.store };
-      told = N.told store;
-    })
-        (record {
-          written = record { old = O.written output.old; new = O.written output.new };
-          write_faults = record { old = O.faults output.old; new = O.faults output.new };
-        }) result.status) }
+    ensures run { IfOk words (λ all. IsRun (map string_bytes (drop 1 all.items))
+        (met_of I.left I.faults input.old input.new N.faults N.told store result.store)
+        (sent_of O.written O.faults output.old output.new) result.status) }
     ensures other_words { IfErr words (λ error. error_kind error ≡ ErrorKind.InvalidData
-        → IsWritten (record {
-          written = record { old = O.written output.old; new = O.written output.new };
-          write_faults = record { old = O.faults output.old; new = O.faults output.new };
-        }) (Err RunError.Usage) result.status) }
+        → IsWritten (sent_of O.written O.faults output.old output.new) (Err RunError.Usage) result.status) }
     ensures no_words { IfErr words (λ error. error_kind error ≢ ErrorKind.InvalidData
-        → IsWritten (record {
-          written = record { old = O.written output.old; new = O.written output.new };
-          write_faults = record { old = O.faults output.old; new = O.faults output.new };
-        }) (Err RunError.NoMemory) result.status) }
+        → IsWritten (sent_of O.written O.faults output.old output.new) (Err RunError.NoMemory) result.status) }
     ensures unread { IfErr words (λ _. input.new ≡ input.old) }
     ensures told { N.told result.store ≡ N.told store }
     ensures kept { (result.peer ≡ peer) × (result.clock ≡ clock) }

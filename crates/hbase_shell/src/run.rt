@@ -2,7 +2,7 @@
 ghost use Rattle.std.specs.Prelude.{◌≡◌, ◌≢◌, ◌⊎◌, Ok, IfSome, map};
 ghost use Rattle.std.specs.String.{string_bytes};
 ghost use Rattle.hb_causes.specs.Faults.{Rose};
-ghost use Rattle.hbase_shell.specs.Run.{IsAnswered, IsDue, IsRun, IsWritten, ListsSnapshots};
+ghost use Rattle.hbase_shell.specs.Run.{IsAnswered, IsDue, IsRun, IsWritten, ListsSnapshots, met_of, sent_of};
 ghost use Rattle.hbase_shell.specs.Script.{IsScript, ReadsScript, ReadsAnother};
 ghost use Rattle.shell_words.specs.declared.options.Options.{Options};
 ghost use Rattle.shell_words.specs.Line.{IsPlainLine};
@@ -46,18 +46,9 @@ pub fn hbase<
     gate: &G,
 ) -> Outcome<N, P, C>
     // The words were read, there was an answer by its cause, and it was written whole or cut off by a fault of the sink.
-    ensures run { IsRun (map string_bytes words.now) (λ read. record {
-      words = read;
-      left = record { old = I.left input.old; new = I.left input.new };
-      read_faults = record { old = I.faults input.old; new = I.faults input.new };
-      store = record { old = store; new = result.store };
-      ns_faults = record { old = N.faults store; new = N.faults result.store };
-      told = N.told store;
-    })
-        (record {
-          written = record { old = O.written output.old; new = O.written output.new };
-          write_faults = record { old = O.faults output.old; new = O.faults output.new };
-        }) result.status }
+    ensures run { IsRun (map string_bytes words.now)
+        (met_of I.left I.faults input.old input.new N.faults N.told store result.store)
+        (sent_of O.written O.faults output.old output.new) result.status }
 
     // So this is what each status says.
     ensures listed { result.status ≡ 0 → AreTaken (map string_bytes words.now)
@@ -120,18 +111,8 @@ pub fn hbase_script<N: Namespace, P: Namespace, I: Source, O: Sink, C: Clock>(
     clock: C,
 ) -> Outcome<N, P, C>
     // There was an answer by its cause, and it was written whole or cut off by a fault of the sink.
-    ensures answered { IsAnswered (record {
-      words = Ok options.now;
-      left = record { old = I.left input.old; new = I.left input.new };
-      read_faults = record { old = I.faults input.old; new = I.faults input.new };
-      store = record { old = store; new = result.store };
-      ns_faults = record { old = N.faults store; new = N.faults result.store };
-      told = N.told store;
-    })
-        (record {
-          written = record { old = O.written output.old; new = O.written output.new };
-          write_faults = record { old = O.faults output.old; new = O.faults output.new };
-        }) result.status }
+    ensures answered { IsAnswered (met_of I.left I.faults input.old input.new N.faults N.told store result.store (Ok options.now))
+        (sent_of O.written O.faults output.old output.new) result.status }
 
     // So this is what each status says.
     ensures listed { result.status ≡ 0 → ReadsScript (I.left input.old) (I.left input.new)
@@ -167,14 +148,7 @@ fn answer_script<I: Source, N: Namespace>(
     input: &mut I,
     store: &mut N,
 ) -> Result<Blob, RunError>
-    ensures due { IsDue (record {
-      words = Ok options.now;
-      left = record { old = I.left input.old; new = I.left input.new };
-      read_faults = record { old = I.faults input.old; new = I.faults input.new };
-      store = record { old = store.old; new = store.new };
-      ns_faults = record { old = N.faults store.old; new = N.faults store.new };
-      told = N.told store.old;
-    }) result }
+    ensures due { IsDue (met_of I.left I.faults input.old input.new N.faults N.told store.old store.new (Ok options.now)) result }
     ensures told { N.told store.new ≡ N.told store.old }
 {
     let _ = options;
@@ -184,10 +158,7 @@ fn answer_script<I: Source, N: Namespace>(
 
 // Writes an answer, and gives the status of the run.
 pub(crate) fn finish<O: Sink>(output: &mut O, answer: Result<Blob, RunError>) -> u8
-    ensures { IsWritten (record {
-      written = record { old = O.written output.old; new = O.written output.new };
-      write_faults = record { old = O.faults output.old; new = O.faults output.new };
-    }) answer result }
+    ensures { IsWritten (sent_of O.written O.faults output.old output.new) answer result }
 {
     let (status, written) = match &answer {
         Ok(text) => (0, write_text(output, text.as_slice())),

@@ -8,11 +8,12 @@ use Rattle.hex.specs.Hex.{IsBytes}
 use Rattle.hb_records.specs.declared.region_info.RegionInfo.{RegionInfo}
 use Rattle.hb_row_text.specs.RowText.{row_text}
 use Rattle.commit_line.specs.Line.{field, ended}
+use Rattle.hb_row_text.specs.declared.row_text.TheConstants.{MAX_ROW}
 
 -- a row key: at most 32,767 bytes
 pub record IsRow (row : List ℕ) : Type 0 where
   pub small : IsBytes row
-  pub limit : length row ≤ 32767
+  pub limit : length row ≤ MAX_ROW
 
 -- a region that a set of this table can have: its end, where there is one, is a row key of at least a byte
 pub record IsRegion (table : List ℕ) (region : RegionInfo × Bool) : Type 0 where

@@ -7,6 +7,7 @@ use Rattle.hb_row_text.specs.RowText.{row_text}
 use Rattle.hb_row_text.specs.NextRow.{next_row}
 use Rattle.commit_line.specs.Line.{field, ended}
 use Rattle.region_set.specs.RegionLine.{IsRow, split_word, end_text}
+use Rattle.hb_row_text.specs.declared.row_text.TheConstants.{MAX_ROW}
 
 -- an id where there is no next row, and else 0
 abbrev pub id_unless : Option (List ℕ) → ℕ → ℕ
@@ -16,12 +17,12 @@ id_unless (Some next) id = 0
 -- the least id that a region behind another can have: that one's where its start has no next row
 abbrev pub least_id : Option (RegionInfo × Bool) → ℕ
 least_id None = 0
-least_id (Some last) = id_unless (next_row 32767 last.0.start) last.0.id
+least_id (Some last) = id_unless (next_row MAX_ROW last.0.start) last.0.id
 
 -- the least start of a region of this id behind another: that one's where the id is not below its id, and else the row next to that
 abbrev pub start_bound : Option (RegionInfo × Bool) → ℕ → Option (List ℕ)
 start_bound None id = None
-start_bound (Some last) id = cond (nat_lt id last.0.id) (next_row 32767 last.0.start) (Some last.0.start)
+start_bound (Some last) id = cond (nat_lt id last.0.id) (next_row MAX_ROW last.0.start) (Some last.0.start)
 
 -- its text
 abbrev pub bound_text : Option (RegionInfo × Bool) → ℕ → Option (List ℕ)

@@ -1,6 +1,6 @@
 //! Lines of families.
 
-ghost use Rattle.std.specs.Prelude.{◌≡◌, ◌≤◌, ◌==◌, ◌++◌, OnOk, None, true, false, length, drop, option_copied};
+ghost use Rattle.std.specs.Prelude.{◌≡◌, ◌≤◌, ◌==◌, ◌++◌, OnOk, None, length, drop, option_copied, ◌↔◌, IsTrue};
 ghost use Rattle.std.specs.Fmt.{decimal};
 ghost use Rattle.hb_grammar.specs.Grammar.{Same, IsLive};
 ghost use Rattle.hb_grammar.specs.Rows.{IsBegun, RowsFrom};
@@ -58,8 +58,7 @@ pub(crate) fn read_family(
 
 /// Whether a byte stands at a place.
 fn begins(bytes: &[u8], at: usize, byte: u8) -> bool
-    ensures yes { result ≡ true → IsBegun (λ first. first == byte) (drop at bytes.now) }
-    ensures no { result ≡ false → IsBegun (λ first. first == byte) (drop at bytes.now) → ⊥ }
+    ensures { IsTrue result ↔ IsBegun (λ first. first == byte) (drop at bytes.now) }
 {
     at < bytes.len() && bytes[at] == byte
 }
@@ -97,8 +96,7 @@ pub(crate) fn write_family(family: &(FamilyName, u32), out: &mut Blob) -> Result
 
 /// Whether a set can have a family behind the last one.
 fn is_behind(last: Option<&(FamilyName, u32)>, family: &(FamilyName, u32)) -> bool
-    ensures yes { result ≡ true → IsFamilyBehind (option_copied last.entry) family.now }
-    ensures no { result ≡ false → IsFamilyBehind (option_copied last.entry) family.now → ⊥ }
+    ensures { IsTrue result ↔ IsFamilyBehind (option_copied last.entry) family.now }
 {
     let name = family.0.as_slice();
     if family.1 == 0 || family.1 > 2_147_483_647 {
@@ -115,8 +113,7 @@ fn is_behind(last: Option<&(FamilyName, u32)>, family: &(FamilyName, u32)) -> bo
 
 /// Whether a set can have these families.
 pub(crate) fn are_families(families: &[(FamilyName, u32)]) -> bool
-    ensures yes { result ≡ true → RowsFrom IsFamilyBehind None families.now }
-    ensures no { result ≡ false → RowsFrom IsFamilyBehind None families.now → ⊥ }
+    ensures { IsTrue result ↔ RowsFrom IsFamilyBehind None families.now }
 {
     let mut last = None;
     for family in families {

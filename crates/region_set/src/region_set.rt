@@ -16,14 +16,12 @@ use crate::family_line::{are_families, read_families, write_family};
 use crate::region_line::write_region;
 use crate::regions::{are_regions, read_regions};
 use crate::set_state::{SetState, read_state};
-use commit_line::{BadText, ListError, check_number, read_number};
+use commit_line::{BadText, ListError, MAX_NUMBER, check_number, read_number};
 use hb_grammar::{Literal, scan};
 use hb_names::{FamilyName, TableName};
 use hb_records::{RegionInfo, TableSchema};
 use hb_wire::{Blob, Copied, Items, NoMemory};
 use std::alloc::Global;
-
-const MAX: u64 = 9_223_372_036_854_775_807;
 
 /// The region set of a table: its number, the table's state and schema, and its regions in the order of their
 /// starts and ids, each with whether it is split.
@@ -74,7 +72,7 @@ fn set_of(alloc: Global, table: &TableName, bytes: &[u8]) -> Result<RegionSet, L
     ensures found { IfOk result (λ set. IsRegionSet table.now set × (bytes.now ≡ region_set_text set)) }
     ensures fault { IfErr result (IsFileRefusal (IsSetFile table.now) bytes.now) }
 {
-    let (number, state_at) = read_number(b"set ", 1, MAX, bytes, 0)?;
+    let (number, state_at) = read_number(b"set ", 1, MAX_NUMBER, bytes, 0)?;
     let (state, body_at) = read_state(bytes, state_at)?;
     let (families, regions) = read_body(alloc, table, state, bytes, body_at)?;
     let schema = TableSchema {
@@ -134,7 +132,7 @@ impl RegionSet {
         let regions = self.regions.as_slice();
         let bare = families.is_empty() && regions.is_empty();
         1 <= self.number
-            && self.number <= MAX
+            && self.number <= MAX_NUMBER
             && (bare || !self.state.is_dropped())
             && are_families(families)
             && are_regions(&self.schema.table, regions)

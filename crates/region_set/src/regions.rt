@@ -1,6 +1,6 @@
 //! The regions of a file, one line each.
 
-ghost use Rattle.std.specs.Prelude.{◌≡◌, ◌≤◌, length, true, false, None};
+ghost use Rattle.std.specs.Prelude.{◌≡◌, ◌≤◌, length, None, ◌↔◌, IsTrue};
 ghost use Rattle.hb_grammar.specs.Rows.{RowsFrom};
 ghost use Rattle.commit_line.specs.Rows.{AreRowsRead};
 ghost use Rattle.region_set.specs.RegionLine.{IsRegionBehind, region_text, begins_region};
@@ -36,8 +36,7 @@ pub(crate) fn read_regions(
 
 /// Whether each of the regions is one of the table, and none is below the one before it.
 pub(crate) fn are_regions(table: &TableName, regions: &[(RegionInfo, bool)]) -> bool
-    ensures yes { result ≡ true → RowsFrom (IsRegionBehind table.now) None regions.now }
-    ensures no { result ≡ false → RowsFrom (IsRegionBehind table.now) None regions.now → ⊥ }
+    ensures { IsTrue result ↔ RowsFrom (IsRegionBehind table.now) None regions.now }
 {
     for i in 0..regions.len() {
         if !is_region_behind(table, regions[..i].last(), &regions[i]) {

@@ -1,26 +1,25 @@
 //! The regions that a set of a table can have.
 
-ghost use Rattle.std.specs.Prelude.{◌≡◌, ◌≢◌, IfSome, option_copied, true, false};
+ghost use Rattle.std.specs.Prelude.{◌≡◌, ◌≢◌, IfSome, option_copied, ◌↔◌, IsTrue};
 ghost use Rattle.std.specs.declared.cmp.Ordering.TheVariants.{Greater};
 ghost use Rattle.region_set.specs.RegionLine.{IsRow, IsRegion, IsRegionBehind, region_cmp};
 ghost use Rattle.region_set.specs.RegionParts.{IsEnd};
 
 use hb_names::TableName;
 use hb_records::RegionInfo;
+use hb_row_text::MAX_ROW;
 use hb_wire::Blob;
 
 /// Whether the bytes are a row key.
 fn is_row(row: &[u8]) -> bool
-    ensures yes { result ≡ true → IsRow row.now }
-    ensures no { result ≡ false → IsRow row.now → ⊥ }
+    ensures { IsTrue result ↔ IsRow row.now }
 {
-    row.len() <= 32_767
+    row.len() <= MAX_ROW
 }
 
 /// Whether the end of a region is one that it can have.
 fn is_end(end: &Option<Blob>) -> bool
-    ensures yes { result ≡ true → IsEnd end.now }
-    ensures no { result ≡ false → IsEnd end.now → ⊥ }
+    ensures { IsTrue result ↔ IsEnd end.now }
 {
     match end {
         None => true,
@@ -30,8 +29,7 @@ fn is_end(end: &Option<Blob>) -> bool
 
 /// Whether a region is one of a table.
 fn is_region(table: &TableName, region: &(RegionInfo, bool)) -> bool
-    ensures yes { result ≡ true → IsRegion table.now region.now }
-    ensures no { result ≡ false → IsRegion table.now region.now → ⊥ }
+    ensures { IsTrue result ↔ IsRegion table.now region.now }
 {
     // Read, so that it is known to be of 64 bits.
     let _id = region.0.id;
@@ -40,8 +38,7 @@ fn is_region(table: &TableName, region: &(RegionInfo, bool)) -> bool
 
 /// Whether a region is not below another, by start and then by id.
 fn is_behind(last: &RegionInfo, info: &RegionInfo) -> bool
-    ensures yes { result ≡ true → region_cmp last.now info.now ≢ Greater }
-    ensures no { result ≡ false → (region_cmp last.now info.now ≢ Greater) → ⊥ }
+    ensures { IsTrue result ↔ (region_cmp last.now info.now ≢ Greater) }
 {
     last.start
         .cmp(&info.start)
@@ -55,8 +52,7 @@ pub(crate) fn is_region_behind(
     last: Option<&(RegionInfo, bool)>,
     region: &(RegionInfo, bool),
 ) -> bool
-    ensures yes { result ≡ true → IsRegionBehind table.now (option_copied last.entry) region.now }
-    ensures no { result ≡ false → IsRegionBehind table.now (option_copied last.entry) region.now → ⊥ }
+    ensures { IsTrue result ↔ IsRegionBehind table.now (option_copied last.entry) region.now }
 {
     if !is_region(table, region) {
         return false;

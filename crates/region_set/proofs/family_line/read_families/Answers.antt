@@ -26,6 +26,6 @@ returns-in_err-family c =
       rows = rows;
       mid = c.loop-alloc.place;
       before = c.loop-alloc.invariant;
-      begun = c.begins.ensures.yes c.loop-alloc-test.true;
+      begun = c.begins.ensures.0 c.loop-alloc-test.true;
       refused = subst (λ (o : Option (List ℕ × ℕ)). IsFrontRefusal (IsTextOf (IsFamilyBehind o) family_text) c.args.bytes.now c.loop-alloc.place error) last c.in_err-family.ensures;
     }
