@@ -1,5 +1,5 @@
 -- What is visible of cells of different families, one lot behind the other, is what is visible of each.
-use Rattle.std.proofs.Common.{◌≡◌, ℕ, ◌+◌, Bool, true, false, cond, not, ◌&&◌, List, [], ◌∷◌, ◌++◌, inl, inr, refl, sym, ap, ◌∙◌, arith}
+use Rattle.std.proofs.Common.{◌≡◌, ℕ, ◌+◌, Bool, true, false, cond, not, List, [], ◌∷◌, ◌++◌, inl, inr, refl, sym, ap, ◌∙◌, arith}
 use Rattle.std.specs.Prelude.{filter, count_by}
 use Rattle.std.specs.List.{list_any}
 use Rattle.std.specs.Ordering.{is_gt}
@@ -20,7 +20,7 @@ use Rattle.cell_sight.proofs.ShownExactly.{shows_exactly, ascends}
 use Rattle.cell_sight.proofs.Sorting.{Ordered}
 use Rattle.cell_merge.proofs.Places.{Ahead, family_back, family_on, family_own}
 use Rattle.cell_sight.proofs.Truths.{any_some, some_any}
-use Rattle.cell_sight.proofs.Truths.{left, right, turn, never, equal}
+use Rattle.cell_sight.proofs.Truths.{turn, never, equal}
 
 filter-none : {X : Type 0} (p : X → Bool) (xs : List X) → ((x : X) → Member x xs → p x ≡ false) → filter p xs ≡ []
 filter-none p [] h = refl

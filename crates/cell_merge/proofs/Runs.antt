@@ -21,7 +21,7 @@ use Rattle.cell_merge.proofs.Puts.{Puts, no_puts, puts_narrow, puts_wide, ends_a
 use Rattle.cell_merge.proofs.PutSteps.{put_held, put_dropped}
 use Rattle.cell_merge.proofs.Streaming.{is_wide, by_column, is_candidate, survives, visible-survives}
 use Rattle.cell_merge.proofs.Winners.{AllAhead}
-use Rattle.cell_sight.proofs.Truths.{left, turn, turned, never}
+use Rattle.cell_sight.proofs.Truths.{left, turn, never}
 
 pub record Holds (families : List (List ℕ × ℕ)) (cells : List Cell) (kept : Kept) : Type 0 where
   pub puts : Puts families cells kept.held kept.shown kept.family

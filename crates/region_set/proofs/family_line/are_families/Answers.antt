@@ -14,8 +14,11 @@ loop-family-preserved c =
     }
 
 pub returns-then-not-is_behind : goal.returns-then-not-is_behind
-returns-then-not-is_behind c = (λ e. absurd cc, λ each.
-    let family = c.family-item.result in
-    absurd (refused c.is_behind.ensures c.if-not-is_behind.true
-    (subst (λ (o : Option (List ℕ × ℕ)). IsFamilyBehind o family) (sym c.loop-family.invariant.known)
-    (RowsFrom-get_or IsFamilyBehind None c.args.families.now c.loop-family.family-index family c.loop-family-test.true c.family-item.is each))))
+returns-then-not-is_behind c = (
+  λ e. absurd cc,
+  λ each.
+      let family = c.family-item.result in
+      absurd (refused c.is_behind.ensures c.if-not-is_behind.true
+      (subst (λ (o : Option (List ℕ × ℕ)). IsFamilyBehind o family) (sym c.loop-family.invariant.known)
+      (RowsFrom-get_or IsFamilyBehind None c.args.families.now c.loop-family.family-index family c.loop-family-test.true c.family-item.is each))),
+)
