@@ -48,6 +48,27 @@ fn sets_are_read_copied_and_written(rt: HostRuntime) -> Result<(), Fail> {
     Ok(())
 }
 
+/// A set's file of 300 families and 300 regions.
+fn many_lines(alloc: Global) -> Result<Blob, Fail> {
+    let mut text = Blob::copy_of(alloc, b"set 2\nenabled\n")?;
+    for number in 1_000..1_300 {
+        text.add(format!(in alloc; "family f{number} 1\n")?.as_bytes())?;
+    }
+    for number in 1_000..1_300 {
+        text.add(format!(in alloc; "region {number} open - -\n")?.as_bytes())?;
+    }
+    text.add(b"end\n")?;
+    Ok(text)
+}
+
+#[test]
+fn sets_of_many_lines_are_read_and_written(rt: HostRuntime) -> Result<(), Fail> {
+    let table = TableName::read(rt.alloc(), b"t")?;
+    let bytes = many_lines(rt.alloc())?;
+    assert!(rt; set_again(rt.alloc(), &table, bytes.as_slice())? == bytes);
+    Ok(())
+}
+
 /// The number that is asked for comes before any fault behind it, and behind one in its own line.
 #[test]
 fn another_number_comes_first(rt: HostRuntime) -> Result<(), Fail> {
