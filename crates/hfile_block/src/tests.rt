@@ -20,6 +20,15 @@ fn reads_cells(rt: HostRuntime) -> Result<(), Fail> {
     Ok(())
 }
 
+#[test]
+fn reads_cells_without_numbers(rt: HostRuntime) -> Result<(), Fail> {
+    let cells = cells_of_block(rt.alloc(), &CONTENT[..24], 100, false)?;
+    assert_eq!(rt; cells.len(), 1);
+    let first = cells.get(0).map(|cell| (cell.ts, cell.seq));
+    assert_eq!(rt; first, Some((5, 0)));
+    Ok(())
+}
+
 /// A byte of the content that is exchanged, how much of the content is left, and the fault that is then found.
 const FAULTS: [(usize, u8, usize, u64, CellError); 5] = [
     (0, 0, 49, 125, CellError::Short(1)),
