@@ -1,0 +1,4 @@
+//! What holds of the core in every state that allowed entries lead to.
+#![tactic(auto)]
+
+pub mod laws;
