@@ -1,4 +1,2 @@
-pub mod Walks
-pub mod Parts
-pub mod Entries
+pub mod Repeats
 pub mod Numbers

@@ -3,7 +3,7 @@ use Rattle.plain_model.specs.declared.event.Event.{Event}
 use Rattle.plain_model.specs.declared.event.Event.TheVariants.{Put, Draw, Freeze, Flush, MajorStart, Major, Bulk, Capture, Complete, Delete, Create, Enable, Disable, Drop, Split, Clone, Restore, Remove, At, Stop}
 use Rattle.plain_model.specs.Plain.{Plain}
 use Rattle.plain_model.specs.CanHappen.{CanHappen}
-use Rattle.plain_machine.specs.State.{HasNumber}
+use Rattle.plain_events.specs.State.{HasNumber}
 
 pub numbers_fit : (e : Event) (s : Plain) → CanHappen e s → HasNumber e s
 numbers_fit (Put k c) s h = h.2

@@ -3,7 +3,7 @@
 ghost use Rattle.plain_model.specs.declared.event.Event.{Event};
 ghost use Rattle.plain_model.specs.Plain.{Plain};
 ghost use Rattle.plain_model.specs.CanHappen.{CanHappen};
-ghost use Rattle.plain_machine.specs.State.{HasNumber};
+ghost use Rattle.plain_events.specs.State.{HasNumber};
 
 /// Each event that can happen has the number that the machine asks for.
 pub fn numbers_fit()

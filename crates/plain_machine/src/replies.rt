@@ -10,15 +10,15 @@ ghost use Rattle.plain_model.specs.declared.job.Job.TheVariants as jobs;
 ghost use Rattle.plain_model.specs.declared.reply.Reply.TheVariants.{BadSplitKey, DuplicateFamily, TableExists, Taking, UnknownFamily};
 ghost use Rattle.plain_machine.specs.Machine.{state_of};
 
-use crate::lists::joined;
 use crate::plain::Plain;
-use crate::regions::{is_open, region_of};
-use crate::snapshots::{names, snapshot_at};
-use crate::tables::table_at;
 use hb_names::{FamilyName, SnapName, TableName};
 use hb_records::RegionInfo;
 use hb_wire::{Blob, Copied, Items, NoMemory};
+use plain_cells::lists::joined;
 use plain_model::{Hold, Job, Live, Reply};
+use plain_tables::regions::{is_open, region_of};
+use plain_tables::snapshots::{names, snapshot_at};
+use plain_tables::tables::table_at;
 use std::alloc::Global;
 
 /// Why a table can't be read or written.

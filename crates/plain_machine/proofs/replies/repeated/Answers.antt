@@ -1,5 +1,5 @@
 use Rattle.std.proofs.Common.{◌∙◌, sym}
-use Rattle.plain_machine.proofs.Parts.{repeats_here, repeats_behind}
+use Rattle.plain_machine.proofs.Repeats.{repeats_here, repeats_behind}
 use Rattle.plain_machine.proofs.replies.repeated.Goals as goal
 
 pub returns-then-contains : goal.returns-then-contains

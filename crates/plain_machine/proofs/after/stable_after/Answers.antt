@@ -1,4 +1,0 @@
-use Rattle.plain_machine.proofs.after.stable_after.Goals as goal
-
-pub returns-in-Split : goal.returns-in-Split
-returns-in-Split c = rw c.in-Split.is c.split_cells.ensures

@@ -1,6 +1,0 @@
-use Rattle.std.proofs.Common.{◌≡◌, [], drop}
-use Rattle.plain_machine.specs.Parts.{by_region}
-use Rattle.plain_machine.proofs.by_region.cells_at.Given as goal
-
-abbrev pub invariant-loop-entry : goal.invariant-loop-entry
-invariant-loop-entry l = by_region [] (drop l.entry-index l.entries) l.key ≡ by_region [] l.entries l.key

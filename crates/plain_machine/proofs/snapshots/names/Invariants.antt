@@ -1,8 +1,0 @@
-use Rattle.std.proofs.Common.{◌≡◌, ◌++◌}
-use Rattle.std.specs.FinMap.{keys}
-use Rattle.plain_machine.specs.Parts.{by_entry}
-use Rattle.plain_machine.proofs.snapshots.names.Given as goal
-
--- the names so far and those still to come are those of all snapshots
-abbrev pub invariant-loop-name : goal.invariant-loop-name
-invariant-loop-name l = l.names.items ++ l.name-iterator ≡ keys (by_entry l.snapshots.entries)

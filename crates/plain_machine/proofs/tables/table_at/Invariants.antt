@@ -1,8 +1,0 @@
-use Rattle.std.proofs.Common.{◌≡◌, drop}
-use Rattle.std.specs.FinMap.{get}
-use Rattle.plain_machine.specs.Parts.{by_name}
-use Rattle.plain_machine.proofs.tables.table_at.Given as goal
-
--- the entries passed are of other names
-abbrev pub invariant-loop-entry : goal.invariant-loop-entry
-invariant-loop-entry l = get (by_name (drop l.entry-index l.tables)) l.name ≡ get (by_name l.tables) l.name

@@ -1,0 +1,3 @@
+pub mod Walks
+pub mod ByName
+pub mod Entries
