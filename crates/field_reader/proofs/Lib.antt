@@ -1,0 +1,5 @@
+pub mod Pushes
+pub mod Walks
+pub mod Records
+pub mod Places
+pub mod Apart

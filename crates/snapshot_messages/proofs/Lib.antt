@@ -1,0 +1,2 @@
+pub mod Nevers
+pub mod Told
