@@ -10,3 +10,6 @@ pub use info::write_snapshot_info;
 pub use laws::writings_told;
 pub use reference::{is_split_row, write_reference};
 pub use region::{is_region_row, write_region_info};
+
+#[cfg(test)]
+mod tests;
