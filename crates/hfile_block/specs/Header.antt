@@ -1,7 +1,7 @@
 -- The header of a block (HBase Reference Guide, HFile format, block header; HFileBlock): magic, on-disk size without
 -- header, uncompressed size without header, offset of the previous block of its kind, checksum type, bytes per
 -- checksum, on-disk data size with header.
-use Rattle.std.specs.Prelude.{ℕ, ◌+◌, ◌-◌, ◌*◌, ◌/◌, ℤ, Bool, ◌==◌, ◌||◌, ◌&&◌, not, nat_eq, nat_lt, nat_le, if◌then◌else◌, List, ◌∷◌, ◌++◌, length, take, drop, slice_index, codes, Option, Some, None, Result, Ok, Err}
+use Rattle.std.specs.Prelude.{◌≡◌, ◌<◌, ◌≤◌, ℕ, ◌^◌, FitsSigned, true, ◌+◌, ◌-◌, ◌*◌, ◌/◌, ℤ, Bool, ◌==◌, ◌||◌, ◌&&◌, not, nat_eq, nat_lt, nat_le, if◌then◌else◌, List, ◌∷◌, ◌++◌, length, take, drop, slice_index, codes, Option, Some, None, Result, Ok, Err}
 use Rattle.std.specs.Int.{w64, cast_signed, cast_unsigned}
 use Rattle.std.specs.Cmp.Lexicographic.{pointwise}
 use Rattle.hb_wire.specs.Fixed.{be_bytes, be_number}
@@ -88,3 +88,19 @@ written_header magic len previous = record { magic = magic; on_disk = len; uncom
 -- a written block
 unfoldable pub block_bytes : Magic → List ℕ → ℤ → List ℕ
 block_bytes magic content previous = header_bytes (written_header magic (length content) previous) ++ content
+
+-- a header that a block can have: each number has its width, the checksum type is known, and the sizes agree
+pub record IsHeader (h : Header) : Type 0 where
+  pub on_disk : h.on_disk < 2 ^ 32
+  pub uncompressed : h.uncompressed < 2 ^ 32
+  pub previous : FitsSigned w64 h.previous
+  pub checksum : h.checksum ≤ 2
+  pub per : h.per < 2 ^ 32
+  pub data_size : h.data_size < 2 ^ 32
+  pub agree : sizes_agree h ≡ true
+
+-- the bytes begin with a header, and hold the block
+pub record BeginsWith (bytes : List ℕ) (h : Header) : Type 0 where
+  pub is : IsHeader h
+  pub whole : bytes ≡ header_bytes h ++ drop 33 bytes
+  pub room : h.on_disk ≤ length (drop 33 bytes)

@@ -1,2 +1,3 @@
 pub mod Trailers
 pub mod WrittenTrailers
+pub mod Infos

@@ -1,4 +1,8 @@
 //! Why the trailer or the file info of an HFile could not be read.
+ghost use Rattle.std.specs.Prelude.{◌≡◌};
+ghost use Rattle.hfile_meta.specs.declared.fault.MetaError.TheVariants.{NoMemory};
+
+use std::alloc::AllocError;
 use thiserror::Error;
 
 /// What is wrong with a trailer or a file info. A place is counted from the first byte that was handed in.
@@ -22,4 +26,12 @@ pub enum MetaError {
     /// No memory was left.
     #[error("no memory was left")]
     NoMemory,
+}
+
+impl From<AllocError> for MetaError {
+    ghost from_gives = { λ _ e. e ≡ NoMemory };
+
+    fn from(_e: AllocError) -> MetaError {
+        MetaError::NoMemory
+    }
 }

@@ -3,10 +3,12 @@
 
 pub mod fault;
 pub mod frame;
+pub mod info;
 pub mod trailer;
 pub mod written;
 
 pub use fault::MetaError;
+pub use info::Info;
 pub use trailer::{TRAILER_LEN, Trailer, read_trailer};
 pub use written::write_trailer;
 

@@ -6,6 +6,7 @@ use Rattle.wire_fields.specs.declared.message.SplitFields.{SplitFields}
 use Rattle.std.proofs.lemmas.Bool.{eq-eqb, ne_eqb}
 use Rattle.std.proofs.lemmas.List.{take_more, append-nil, drop_at, drop_all, length-append, length-drop, map-append}
 use Rattle.std.proofs.lemmas.List.Concat.{flat_map-append}
+use Rattle.std.proofs.lemmas.List.Elements.{filter_map-append}
 use Rattle.hb_wire.specs.declared.fault.WireError.{WireError}
 use Rattle.hb_wire.specs.declared.fault.WireError.TheVariants.{Short}
 use Rattle.wire_fields.specs.declared.field.Field.{Field}
@@ -13,7 +14,8 @@ use Rattle.wire_fields.specs.declared.field.FieldValue.{FieldValue}
 use Rattle.wire_fields.specs.declared.message.PlacedField.{PlacedField}
 use Rattle.wire_fields.specs.Varint.{varint, varint_at}
 use Rattle.wire_fields.specs.Fields.{Part, kind, field_bytes, Fits, IsId, field_at, part_of}
-use Rattle.wire_fields.specs.Message.{message_bytes, IsPart, AreParts, IsMessage, parts_of, AreAt, IsSplit, later, last_value, last_part, last_number, number_here}
+use Rattle.wire_fields.specs.Message.{message_bytes, IsPart, AreParts, IsMessage, parts_of, AreAt, IsSplit, later, last_value, last_part, last_number, number_here, text_here, texts}
+use Rattle.std.specs.Option.{option_to_list}
 use Rattle.wire_fields.proofs.Varints.{ok, ok_is}
 use Rattle.wire_fields.proofs.FieldLaws.{placed, field_at-field_bytes, part_of-placed}
 
@@ -252,3 +254,30 @@ no_message bytes id at last e parts walk more fault message =
     let same = split_whole bytes walk.fields at parts (IsSplit-fault bytes walk.fields at e walk.so_far fault) message in
     let end = same.1 in
     omega arith
+
+-- ---- the texts of a field
+
+texts-one : (id : ℕ) (p : ℕ × Part) (o : Option (List ℕ)) → text_here id p ≡ o → texts id (p ∷ []) ≡ option_to_list o
+texts-one id p None e = rw e refl
+texts-one id p (Some t) e = rw e refl
+
+texts-push : (id : ℕ) (parts : List (ℕ × Part)) (p : ℕ × Part) → texts id (parts ++ p ∷ []) ≡ texts id parts ++ option_to_list (text_here id p)
+texts-push id parts p = filter_map-append (text_here id) parts (p ∷ []) ∙ ap (λ (ts : List (List ℕ)). texts id parts ++ ts) (texts-one id p (text_here id p) refl)
+
+pub texts-more : (id : ℕ) (bytes : List ℕ) (fields : List PlacedField) (i : ℕ) (d : PlacedField) (before after : List (List ℕ)) (here : Option (List ℕ))
+    → i < length fields → before ≡ texts id (parts_of bytes (take i fields)) → here ≡ text_here id ((get_or fields i d).number, part_of bytes (get_or fields i d).value)
+    → after ≡ before ++ option_to_list here → after ≡ texts id (parts_of bytes (take (i + 1) fields))
+texts-more id bytes fields i d before after here inside so_far is next =
+    let f = get_or fields i d in
+    let p : ℕ × Part = (f.number, part_of bytes f.value) in
+    let split : parts_of bytes (take (i + 1) fields) ≡ parts_of bytes (take i fields) ++ p ∷ [] =
+    ap (parts_of bytes) (take_more fields i d inside) ∙ map-append (λ (g : PlacedField). (g.number, part_of bytes g.value)) (take i fields) (f ∷ []) in
+    next ∙ ap (λ (ts : List (List ℕ)). ts ++ option_to_list here) so_far ∙ ap (λ o. texts id (parts_of bytes (take i fields)) ++ option_to_list o) is
+    ∙ sym (texts-push id (parts_of bytes (take i fields)) p) ∙ ap (texts id) (sym split)
+
+-- bytes are a message of one list of fields
+pub one_message : (bytes : List ℕ) (ps qs : List (ℕ × Part)) → IsMessage bytes ps → IsMessage bytes qs → ps ≡ qs
+one_message bytes ps qs is_p is_q =
+    let on = GoesOn-message_bytes ps qs [] is_p.0 is_q.0 (append-nil (message_bytes ps) ∙ sym is_p.1 ∙ is_q.1) in
+    let none : on.others ≡ [] = no_bytes on.others on.fit on.behind in
+    sym (on.joined ∙ ap (λ (zs : List (ℕ × Part)). ps ++ zs) none ∙ append-nil ps)

@@ -1,7 +1,7 @@
 -- A message of protobuf is its fields, one after another (Protocol Buffers, Encoding, Message Structure). A field
 -- that is not repeated counts with its last value; fields of other numbers are passed over.
 use Rattle.std.specs.Prelude.{◌≡◌, ◌≤◌, ◌⊎◌, ℕ, ◌+◌, ◌==◌, if◌then◌else◌, List, [], ◌∷◌, ◌++◌, length, drop, map, Bool, true, false, Option, Some, None, Err}
-use Rattle.std.specs.List.{flat_map, AllByRecursion}
+use Rattle.std.specs.List.{flat_map, filter_map, AllByRecursion}
 use Rattle.hb_wire.specs.declared.fault.WireError.{WireError}
 use Rattle.wire_fields.specs.declared.message.PlacedField.{PlacedField}
 use Rattle.wire_fields.specs.declared.field.FieldValue.{FieldValue}
@@ -67,3 +67,18 @@ number_here id p = number_part (p.0 == id) p.1
 abbrev pub last_number : ℕ → List (ℕ × Part) → Option ℕ
 last_number id [] = None
 last_number id (p ∷ parts) = later (number_here id p) (last_number id parts)
+
+-- a value that is bytes, where it is asked for
+abbrev pub text_part : Bool → Part → Option (List ℕ)
+text_part true (number n) = None
+text_part true (eight n) = None
+text_part true (four n) = None
+text_part true (text bytes) = Some bytes
+text_part false part = None
+
+-- the values of a field that are bytes, in their order: a value of another kind is no value of the field
+abbrev pub text_here : ℕ → ℕ × Part → Option (List ℕ)
+text_here id p = text_part (p.0 == id) p.1
+
+abbrev pub texts : ℕ → List (ℕ × Part) → List (List ℕ)
+texts id parts = filter_map (text_here id) parts

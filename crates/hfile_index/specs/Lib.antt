@@ -1,0 +1,2 @@
+pub mod IndexKey
+pub mod Entries
