@@ -1,2 +1,3 @@
 pub mod CellLists
 pub mod Headers
+pub mod HeaderLaws

@@ -2,8 +2,9 @@
 ghost use Rattle.std.specs.Prelude.{◌≡◌, ◌<◌, ◌≤◌, ◌++◌, ◌+◌, ◌^◌, ℤ, List, ℕ, Ok, length, drop, take, OnOk, OnErr, IfOk, FitsSigned};
 ghost use Rattle.std.specs.Int.{w64, cast_signed};
 ghost use Rattle.hb_wire.specs.Fixed.{be_number};
+ghost use Rattle.hfile_block.specs.declared.header.Header.{Header};
 ghost use Rattle.hfile_block.specs.declared.magic.Magic.{Magic};
-ghost use Rattle.hfile_block.specs.Header.{header_at, header_bytes, judged, sums_len, sizes_agree, fields_of, block_bytes, written_header};
+ghost use Rattle.hfile_block.specs.Header.{header_at, header_bytes, BeginsWith, judged, sums_len, sizes_agree, fields_of, block_bytes, written_header};
 
 use crate::{HFileError, Magic};
 use byteorder::{BigEndian, ByteOrder};
@@ -98,9 +99,21 @@ fn fields_of(magic: Magic, bytes: &[u8]) -> Header
 /// The first fault is that of the magic, then of the checksum type, then of the sizes: they agree with each other, and
 /// the bytes hold the whole block. Whether a block of this kind may stand there is the caller's to say. Source: HBase
 /// Reference Guide, HFile format; `HFileBlock`.
-#[tactic(auto, unfolding(crate::specs::Header::header_at))]
 pub fn read_header(bytes: &[u8], at: u64) -> Result<Header, HFileError>
+    // Which header it is, or which fault.
     ensures exact { result ≡ header_at at bytes.now }
+    // What is read is spelled so.
+    ensures found { IfOk result (λ h. BeginsWith bytes.now h) }
+    // What is spelled so is read.
+    ensures only { (h : Header) → BeginsWith bytes.now h → result ≡ Ok h }
+{
+    header_of(bytes, at)
+}
+
+/// What [`read_header`] answers.
+#[tactic(auto, unfolding(crate::specs::Header::header_at))]
+fn header_of(bytes: &[u8], at: u64) -> Result<Header, HFileError>
+    ensures { result ≡ header_at at bytes.now }
 {
     if bytes.len() < 8 {
         return Err(HFileError::Magic(at));

@@ -1,0 +1,5 @@
+pub mod Tools
+pub mod BlockLaws
+pub mod CellLaws
+pub mod FrontLaws
+pub mod FileLaws

@@ -1,0 +1,5 @@
+pub mod Blocks
+pub mod DataCells
+pub mod Front
+pub mod Index
+pub mod File
