@@ -15,7 +15,7 @@ use Rattle.hfile_block.specs.declared.fault.HFileError.TheVariants as errors
 use Rattle.hfile_block.specs.CellBlock.{cells_bytes, IsStorable, AreStorable}
 use Rattle.hfile_block.proofs.CellLists.{stored_long}
 use Rattle.hfile_form.specs.Blocks.{◌>>=◌}
-use Rattle.hfile_form.specs.DataCells.{HoldsCells, is_above, Ascends, last_or, one_at, cells_at, misplaced, ordered, data_at}
+use Rattle.hfile_form.specs.DataCells.{HoldsCells, is_above, Ascends, last_or, one_at, cells_at, misplaced, or_first, ordered, data_at}
 use Rattle.hfile_form.proofs.Tools.{bind_ok, else_ok, chosen, ok, ok_is, length-zero, on_both}
 
 -- ---- the cells
@@ -93,10 +93,6 @@ pub misplaced-Ascends : (with_seq : Bool) (at : ℕ) (last : Option Cell) (cells
 misplaced-Ascends with_seq at last [] up = refl
 misplaced-Ascends with_seq at last (c ∷ cells) up = rw up.0 (misplaced-Ascends with_seq (at + length (stored with_seq c)) (Some c) cells up.1)
 
-abbrev pub or_first : Option ℕ → Option ℕ → Option ℕ
-or_first None next = next
-or_first (Some at) next = Some at
-
 push_test : (b : Bool) (at : ℕ) (x y z : Option ℕ) → x ≡ or_first y z → cond b x (Some at) ≡ or_first (cond b y (Some at)) z
 push_test true at x y z e = e
 push_test false at x y z e = refl
@@ -138,3 +134,24 @@ data_at-holds with_seq at last content cells holds up =
     let short : length (cells_bytes with_seq cells) ≤ length content = omega (arith, ap length holds.whole) in
     let read : cells_at with_seq (length content) at content ≡ Ok cells = ap (cells_at with_seq (length content) at) holds.whole ∙ cells_at-cells_bytes with_seq (length content) at cells holds.storable short in
     rw (some, read, misplaced-Ascends with_seq at last cells up) refl
+
+-- where a cell behind others cannot be read, that is the fault
+pub cells_at-fault : (with_seq : Bool) (more at : ℕ) (cells : List Cell) (rest : List ℕ) (cause : CellError) → AreStorable with_seq cells → length (cells_bytes with_seq cells ++ rest) ≤ more → 0 < length rest → cell_at with_seq rest ≡ Err cause
+    → cells_at with_seq more at (cells_bytes with_seq cells ++ rest) ≡ Err (errors.Cell (at + length (cells_bytes with_seq cells)) cause)
+cells_at-fault with_seq zero at cells rest cause fits short some fault = absurd (omega (arith, length-append (cells_bytes with_seq cells) rest))
+cells_at-fault with_seq (suc more) at [] rest cause fits short some fault =
+    let test : eqb (length rest) 0 ≡ false = ne_eqb (length rest) 0 (λ none. omega arith) in
+    let here : at + 0 ≡ at = omega arith in
+    rw (test, fault, here) refl
+cells_at-fault with_seq (suc more) at (c ∷ cells) rest cause fits short some fault =
+    let text = stored with_seq c in
+    let others = cells_bytes with_seq cells ++ rest in
+    let regrouped : cells_bytes with_seq (c ∷ cells) ++ rest ≡ text ++ others = append_assoc text (cells_bytes with_seq cells) rest in
+    let all = length-append text others in
+    let long = stored_long with_seq c in
+    let test : eqb (length (text ++ others)) 0 ≡ false = ne_eqb (length (text ++ others)) 0 (λ none. omega arith) in
+    let read : cell_at with_seq (text ++ others) ≡ Ok (c, length text) = cell_at-stored with_seq c others fits.0.0 fits.0.1 in
+    let behind : drop (length text) (text ++ others) ≡ others = drop_at text others (length text) refl in
+    let size : at + length text + length (cells_bytes with_seq cells) ≡ at + length (cells_bytes with_seq (c ∷ cells)) = omega (arith, length-append text (cells_bytes with_seq cells)) in
+    let on = cells_at-fault with_seq more (at + length text) cells rest cause fits.1 (omega (arith, ap length regrouped)) some fault in
+    ap (cells_at with_seq (suc more) at) regrouped ∙ rw (test, read, behind, on, size) refl

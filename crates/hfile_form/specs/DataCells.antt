@@ -54,6 +54,11 @@ abbrev pub misplaced : Bool → ℕ → Option Cell → List Cell → Option ℕ
 misplaced with_seq at last [] = None
 misplaced with_seq at last (c ∷ cells) = if is_above last c then misplaced with_seq (at + length (stored with_seq c)) (Some c) cells else Some at
 
+-- the place that was found first
+abbrev pub or_first : Option ℕ → Option ℕ → Option ℕ
+or_first None next = next
+or_first (Some at) next = Some at
+
 abbrev pub ordered : List Cell → Option ℕ → Result (List Cell) HFileError
 ordered cells None = Ok cells
 ordered cells (Some at) = Err (errors.Order at)

@@ -6,14 +6,9 @@ use Rattle.hb_cell.specs.declared.cell.Cell.{Cell}
 use Rattle.hfile_block.specs.declared.fault.HFileError.{HFileError}
 use Rattle.hfile_block.specs.declared.magic.Magic.{Magic}
 use Rattle.hfile_block.specs.declared.magic.Magic.TheVariants as kinds
+use Rattle.hfile_form.specs.declared.front.DataBlock.{DataBlock}
 use Rattle.hfile_form.specs.Blocks.{Block, content, size_of, ◌>>=◌}
 use Rattle.hfile_form.specs.DataCells.{HoldsCells, last_or, data_at}
-
--- a data block: its place, its size, and how many cells stand before it
-pub record DataBlock : Type 0 where
-  pub at : ℕ
-  pub size : ℕ
-  pub before : ℕ
 
 -- a node of the index: its size, its kind and its content
 pub record Node : Type 0 where

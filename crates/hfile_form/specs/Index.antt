@@ -7,7 +7,8 @@ use Rattle.hfile_block.specs.declared.magic.Magic.TheVariants as kinds
 use Rattle.hfile_index.specs.declared.entry.IndexEntry.{IndexEntry}
 use Rattle.hfile_index.specs.IndexKey.{KeyParts, key_at, parts_of_cell, parts_cmp}
 use Rattle.hfile_index.specs.Entries.{node_at}
-use Rattle.hfile_form.specs.Front.{DataBlock, Node}
+use Rattle.hfile_form.specs.declared.front.DataBlock.{DataBlock}
+use Rattle.hfile_form.specs.Front.{Node}
 
 -- the nodes that no entry named yet, and the data blocks that none listed
 pub record Left : Type 0 where
