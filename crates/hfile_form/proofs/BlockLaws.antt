@@ -88,11 +88,11 @@ Cut-blocks_at step section (suc more) at bytes s end fits short e =
     elim (chosen (eqb (length bytes) 0) (ok s) _ (Ok end) e) [
       | inl none ↦ none_left step section at bytes s end (eqb-true (length bytes) 0 none.0) none.1
       | inr some ↦
-        let a = bind_ok (block_at section at bytes) (λ b. step at b s >>= λ n. blocks_at step section more (at + size_of b) (drop (size_of b) bytes) n) end some.1 in
-        let c = bind_ok (step at a.0 s) (λ n. blocks_at step section more (at + size_of a.0) (drop (size_of a.0) bytes) n) end a.2 in
-        let takes = Takes-block_at section at bytes a.0 fits a.1 in
-        let less : length (drop (size_of a.0) bytes) ≤ more = omega (arith, length-drop (size_of a.0) bytes) in
-        Cut-more step section at bytes s c.0 end a.0 takes c.1 (Cut-blocks_at step section more (at + size_of a.0) (drop (size_of a.0) bytes) c.0 end (IsBytes-drop (size_of a.0) bytes fits) less c.2)
+          let a = bind_ok (block_at section at bytes) (λ b. step at b s >>= λ n. blocks_at step section more (at + size_of b) (drop (size_of b) bytes) n) end some.1 in
+          let c = bind_ok (step at a.0 s) (λ n. blocks_at step section more (at + size_of a.0) (drop (size_of a.0) bytes) n) end a.2 in
+          let takes = Takes-block_at section at bytes a.0 fits a.1 in
+          let less : length (drop (size_of a.0) bytes) ≤ more = omega (arith, length-drop (size_of a.0) bytes) in
+          Cut-more step section at bytes s c.0 end a.0 takes c.1 (Cut-blocks_at step section more (at + size_of a.0) (drop (size_of a.0) bytes) c.0 end (IsBytes-drop (size_of a.0) bytes fits) less c.2)
     ]
 
 -- blocks that are spelled so are read, to whatever answer they make

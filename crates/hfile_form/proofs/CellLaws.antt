@@ -42,12 +42,12 @@ AreCells-cells_at with_seq (suc more) at bytes cells fits short e =
     elim (chosen (eqb (length bytes) 0) (ok []) _ (Ok cells) e) [
       | inl none ↦ subst (AreCells with_seq bytes) (ok_is [] cells none.1) (record { storable = tt; whole = length-zero bytes (eqb-true (length bytes) 0 none.0) })
       | inr some ↦
-        let a = bind_ok (one_at at (cell_at with_seq bytes)) (λ x. cells_at with_seq more (at + x.1) (drop x.1 bytes) >>= λ cs. Ok (x.0 ∷ cs)) cells some.1 in
-        let c = bind_ok (cells_at with_seq more (at + a.0.1) (drop a.0.1 bytes)) (λ cs. Ok (a.0.0 ∷ cs)) cells a.2 in
-        let read = IsRead-cell_at with_seq bytes a.0 fits (one_ok at (cell_at with_seq bytes) a.0 a.1) in
-        let less : length (drop a.0.1 bytes) ≤ more = omega (arith, stored_long with_seq a.0.0, ap length read.whole, length-append (stored with_seq a.0.0) (drop a.0.1 bytes)) in
-        subst (AreCells with_seq bytes) (ok_is (a.0.0 ∷ c.0) cells c.2)
-        (AreCells-more with_seq bytes a.0.0 a.0.1 c.0 read (AreCells-cells_at with_seq more (at + a.0.1) (drop a.0.1 bytes) c.0 (IsBytes-drop a.0.1 bytes fits) less c.1))
+          let a = bind_ok (one_at at (cell_at with_seq bytes)) (λ x. cells_at with_seq more (at + x.1) (drop x.1 bytes) >>= λ cs. Ok (x.0 ∷ cs)) cells some.1 in
+          let c = bind_ok (cells_at with_seq more (at + a.0.1) (drop a.0.1 bytes)) (λ cs. Ok (a.0.0 ∷ cs)) cells a.2 in
+          let read = IsRead-cell_at with_seq bytes a.0 fits (one_ok at (cell_at with_seq bytes) a.0 a.1) in
+          let less : length (drop a.0.1 bytes) ≤ more = omega (arith, stored_long with_seq a.0.0, ap length read.whole, length-append (stored with_seq a.0.0) (drop a.0.1 bytes)) in
+          subst (AreCells with_seq bytes) (ok_is (a.0.0 ∷ c.0) cells c.2)
+          (AreCells-more with_seq bytes a.0.0 a.0.1 c.0 read (AreCells-cells_at with_seq more (at + a.0.1) (drop a.0.1 bytes) c.0 (IsBytes-drop a.0.1 bytes fits) less c.1))
     ]
 
 pub cells_at-cells_bytes : (with_seq : Bool) (more at : ℕ) (cells : List Cell) → AreStorable with_seq cells → length (cells_bytes with_seq cells) ≤ more → cells_at with_seq more at (cells_bytes with_seq cells) ≡ Ok cells

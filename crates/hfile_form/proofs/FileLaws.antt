@@ -1,7 +1,8 @@
 -- Reading an HFile part by part gives the cells of its one cut, and its first fault where it has none.
-use Rattle.std.proofs.Common.{◌≡◌, ◌≢◌, ℕ, ◌+◌, ◌-◌, ◌^◌, ◌<◌, ◌≤◌, Bool, true, false, cond, eqb, List, [], ◌∷◌, ◌++◌, length, take, drop, replicate, Option, Some, None, Result, Ok, Err, refl, sym, ap, subst, ◌∙◌, append_assoc, ◌⊎◌, inl, inr, arith}
-use Rattle.std.proofs.lemmas.Bool.{eqb-true, eq-eqb}
-use Rattle.std.proofs.lemmas.List.{append-nil, take_at, drop_at, drop-drop, take-append-drop, length-append, length-take, length-take-le, length-drop}
+use Rattle.std.proofs.Common.{◌≡◌, ◌≢◌, ℕ, ◌+◌, ◌-◌, ◌^◌, ◌<◌, ◌≤◌, Bool, true, false, cond, eqb, List, [], ◌∷◌, ◌++◌, length, get_or, take, drop, replicate, Option, Some, None, Result, Ok, Err, refl, sym, ap, subst, ◌∙◌, append_assoc, ◌⊎◌, inl, inr, arith}
+use Rattle.std.specs.Prelude.{EachIndex}
+use Rattle.std.proofs.lemmas.Bool.{eqb-true, eq-eqb, cases_lt}
+use Rattle.std.proofs.lemmas.List.{append-nil, get_or_past, take_at, drop_at, drop-drop, take-append-drop, length-append, length-take, length-take-le, length-drop}
 use Rattle.hb_wire.proofs.BigEndian.{IsBytes, IsBytes-take, IsBytes-drop}
 use Rattle.hb_wire.specs.Fixed.{be_bytes}
 use Rattle.hb_cell.specs.declared.cell.Cell.{Cell}
@@ -23,15 +24,15 @@ use Rattle.hfile_form.specs.declared.section.Section.TheVariants as sections
 use Rattle.hfile_form.specs.Blocks.{Block, content, size_of, block_spelling, spelled, IsBlock, AreBlocks, block_at, blocks_at, steps, ◌>>=◌}
 use Rattle.hfile_form.specs.DataCells.{Ascends}
 use Rattle.hfile_form.specs.Front.{Front, no_front, Part, AreHeld, blocks_of, cells_of, joined, taken}
-use Rattle.hfile_form.specs.File.{version_two, TrailerTells, in_index, index_of, IsFile, IsHFile, Opened, info_of, opened_at, passed, counted, behind_info, rest_at, IsTrailerFault, IsInfoFault, IsRestFault, IsFirstFault, IsAnswer}
+use Rattle.hfile_form.specs.File.{version_two, TrailerTells, in_index, index_of, IsFile, IsHFile, Opened, info_of, opened_at, passed, counted, behind_info, rest_at, IsTrailerFault, IsInfoFault, IsRestFault, IsFirstFault, IsAnswer, PassesAll}
 use Rattle.hfile_form.proofs.Tools.{bind_ok, then_ok, else_ok, ok, ok_is}
 use Rattle.hfile_form.proofs.BlockLaws.{Takes, Takes-block_at, block_at-block_spelling, length-block_spelling, drop-block_spelling, Cut-blocks_at, blocks_at-spelled}
 use Rattle.hfile_form.proofs.FrontLaws.{AreBytes-spelled, Held-steps, steps-held, cells-joined, IsBytes-left}
 
 -- ---- one trailer
 
-front_of_padded : (m : List ℕ) (zeros : ℕ) (rest : List ℕ) → padded m zeros ++ rest ≡ varint (length m) ++ (m ++ (replicate zeros 0 ++ rest))
-front_of_padded m zeros rest = simp append_assoc
+front_of_padded : (m : List ℕ) (count : ℕ) (rest : List ℕ) → padded m count ++ rest ≡ varint (length m) ++ (m ++ (replicate count 0 ++ rest))
+front_of_padded m count rest = simp append_assoc
 
 one_padded : (m n : List ℕ) (y z : ℕ) (a b : List ℕ) → length m < 2 ^ 64 → length n < 2 ^ 64 → padded m y ++ a ≡ padded n z ++ b → m ≡ n
 one_padded m n y z a b small_m small_n e =
@@ -256,10 +257,10 @@ no_fault bytes cells fault f (inr (t, tells, inr (o, is_open, wrong))) =
     elim wrong [
       | inl info ↦ no_info_fault (content o.info) t.info_at fault f.pairs is f.not_encoded info
       | inr rest ↦
-        let pairs : f.pairs ≡ rest.0 = one_info (content o.info) f.pairs rest.0 is rest.1 in
-        no_err cells fault (rest_at f.trailer (opened_of bytes cells f) (with_numbers f.pairs) body) (rest_at-file bytes cells f)
-        (ap (λ (x : Trailer). rest_at x (opened_of bytes cells f) (with_numbers f.pairs) body) same ∙ ap (λ (x : Opened). rest_at t x (with_numbers f.pairs) body) parts
-        ∙ ap (λ (x : List (List ℕ × List ℕ)). rest_at t o (with_numbers x) body) pairs ∙ rest.3)
+          let pairs : f.pairs ≡ rest.0 = one_info (content o.info) f.pairs rest.0 is rest.1 in
+          no_err cells fault (rest_at f.trailer (opened_of bytes cells f) (with_numbers f.pairs) body) (rest_at-file bytes cells f)
+          (ap (λ (x : Trailer). rest_at x (opened_of bytes cells f) (with_numbers f.pairs) body) same ∙ ap (λ (x : Opened). rest_at t x (with_numbers f.pairs) body) parts
+          ∙ ap (λ (x : List (List ℕ × List ℕ)). rest_at t o (with_numbers x) body) pairs ∙ rest.3)
     ]
 
 pub one_list : (bytes : List ℕ) (cells others : List Cell) → IsHFile bytes cells → IsHFile bytes others → cells ≡ others
@@ -278,3 +279,18 @@ pub GivesCells-answer : (bytes : List ℕ) (r : Result (List Cell) HFileError) �
 GivesCells-answer bytes (Ok found) is cells f = one_list bytes found cells is f
 GivesCells-answer bytes (Err errors.NoMemory) is cells f = tt
 GivesCells-answer bytes (Err fault) is cells f = absurd (no_fault bytes cells fault f is)
+
+-- ---- all tests passed
+
+bytes_small : (bytes : List ℕ) → EachIndex bytes (λ i. get_or bytes i 0 < 256) → IsBytes bytes
+bytes_small bytes fits i =
+    elim (cases_lt i (length bytes)) [
+      | inl inside ↦ fits i inside
+      | inr past ↦ rw (get_or_past bytes i 0 past) (omega arith)
+    ]
+
+pub found_file : (bytes : List ℕ) (cells : List Cell) → EachIndex bytes (λ i. get_or bytes i 0 < 256) → PassesAll bytes cells → IsHFile bytes cells
+found_file bytes cells fits (t, tells, (o, found, (pairs, is, plain, read))) = IsHFile-rest_at bytes t o pairs cells (bytes_small bytes fits) tells found is plain read
+
+pub passes_file : (bytes : List ℕ) (cells : List Cell) → IsHFile bytes cells → PassesAll bytes cells
+passes_file bytes cells f = (f.trailer, f.tells, (opened_of bytes cells f, opened_at-file bytes cells f, (f.pairs, f.tells_pairs, f.not_encoded, rest_at-file bytes cells f)))

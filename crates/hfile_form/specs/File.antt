@@ -1,11 +1,12 @@
 -- An HFile as a whole, and the first fault of bytes that are none (HBase Reference Guide, HFile format; FixedFileTrailer,
 -- HFileInfo, HFileBlock, HFileBlockIndex).
-use Rattle.std.specs.Prelude.{◌≡◌, ◌≢◌, ◌≤◌, ◌<◌, ◌⊎◌, ℕ, ◌+◌, ◌^◌, ◌==◌, ◌&&◌, nat_lt, Bool, true, false, if◌then◌else◌, List, [], ◌∷◌, ◌++◌, length, take, drop, Option, Some, None, Result, Ok, Err}
+use Rattle.std.specs.Prelude.{◌≡◌, ◌≢◌, ◌≤◌, ◌<◌, ◌⊎◌, ◌↔◌, EachIndex, slice_index, ℕ, ◌+◌, ◌^◌, ◌==◌, ◌&&◌, nat_lt, Bool, true, false, if◌then◌else◌, List, [], ◌∷◌, ◌++◌, length, take, drop, Option, Some, None, Result, Ok, Err}
 use Rattle.hb_cell.specs.declared.cell.Cell.{Cell}
 use Rattle.wire_fields.specs.Fields.{Part as Field}
 use Rattle.wire_fields.specs.Message.{IsMessage}
 use Rattle.hfile_block.specs.declared.fault.HFileError.{HFileError}
 use Rattle.hfile_block.specs.declared.fault.HFileError.TheVariants as errors
+use Rattle.hfile_block.specs.CellBlock.{GivesCells}
 use Rattle.hfile_index.specs.declared.entry.IndexEntry.{IndexEntry}
 use Rattle.hfile_index.specs.declared.root.RootNode.{RootNode}
 use Rattle.hfile_index.specs.Entries.{root_node_at}
@@ -162,8 +163,8 @@ abbrev pub IsFirstFault : List ℕ → HFileError → Type 0
 IsFirstFault bytes fault =
     IsTrailerFault bytes fault
     ⊎ ((t : Trailer) × TrailerTells version_two bytes (Ok t) × (
-      (opened_at t (take (trailer_at bytes) bytes) ≡ Err fault)
-      ⊎ ((o : Opened) × (opened_at t (take (trailer_at bytes) bytes) ≡ Ok o) × (IsInfoFault (content o.info) t.info_at fault ⊎ IsRestFault t o (take (trailer_at bytes) bytes) fault))))
+    (opened_at t (take (trailer_at bytes) bytes) ≡ Err fault)
+    ⊎ ((o : Opened) × (opened_at t (take (trailer_at bytes) bytes) ≡ Ok o) × (IsInfoFault (content o.info) t.info_at fault ⊎ IsRestFault t o (take (trailer_at bytes) bytes) fault))))
 
 -- what bytes are answered with
 abbrev pub IsAnswer : List ℕ → Result (List Cell) HFileError → Type 0
@@ -176,3 +177,21 @@ IsAnswer bytes (Err fault) = IsFirstFault bytes fault
 -- one byte string has one list of cells
 abbrev pub HasOneList : List ℕ → Type 0
 HasOneList bytes = (cells others : List Cell) → IsHFile bytes cells → IsHFile bytes others → cells ≡ others
+
+-- no byte string is an HFile and has a first fault
+abbrev pub HasNoBoth : List ℕ → HFileError → Type 0
+HasNoBoth bytes fault = (cells : List Cell) → IsHFile bytes cells → IsFirstFault bytes fault → ⊥
+
+-- an answer that is right gives the cells of the HFile that the bytes are
+abbrev pub IsRight : List ℕ → Result (List Cell) HFileError → Type 0
+IsRight bytes answer = IsAnswer bytes answer → (cells : List Cell) → IsHFile bytes cells → GivesCells answer cells
+
+-- the bytes pass each test, and these are the cells in the end
+abbrev pub PassesAll : List ℕ → List Cell → Type 0
+PassesAll bytes cells =
+    (t : Trailer) × TrailerTells version_two bytes (Ok t) × ((o : Opened) × (opened_at t (take (trailer_at bytes) bytes) ≡ Ok o)
+    × ((pairs : List (List ℕ × List ℕ)) × IsInfo (content o.info) pairs × (is_encoded pairs ≡ false) × (rest_at t o (with_numbers pairs) (take (trailer_at bytes) bytes) ≡ Ok cells)))
+
+-- bytes that pass each test, and no others, are an HFile
+abbrev pub IsFound : List ℕ → List Cell → Type 0
+IsFound bytes cells = EachIndex bytes (λ i. slice_index bytes i < 256) → PassesAll bytes cells ↔ IsHFile bytes cells

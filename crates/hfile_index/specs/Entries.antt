@@ -11,54 +11,6 @@ use Rattle.hfile_index.specs.declared.fault.BadIndex.TheVariants as errors
 use Rattle.hfile_index.specs.declared.root.RootNode.{RootNode}
 use Rattle.hfile_index.specs.IndexKey.{KeyParts, IsKeyParts, key_spelling, key_at, ◌>>=◌}
 
--- ---- the forms
-
--- an entry that a node can hold: its key is the bytes of parts that an index key can hold
-pub record IsEntry (e : IndexEntry) : Type 0 where
-  pub offset : e.offset < 2 ^ 64
-  pub size : e.size < 2 ^ 32
-  pub parts : KeyParts
-  pub fit : IsKeyParts parts
-  pub key : e.key ≡ key_spelling parts
-
-abbrev pub AreEntries : List IndexEntry → Type 0
-AreEntries es = AllByRecursion IsEntry es
-
--- an entry of a root: eight bytes of place, four of size, the length of the key as a variable-length number, the key
-abbrev pub root_entry_bytes : IndexEntry → List ℕ
-root_entry_bytes e = be_bytes 8 e.offset ++ (be_bytes 4 e.size ++ (vlong (pos (length e.key)) ++ e.key))
-
-abbrev pub root_bytes : List IndexEntry → List ℕ
-root_bytes es = flat_map root_entry_bytes es
-
--- an entry of another node: its key has what is left of its length
-abbrev pub node_entry_bytes : IndexEntry → List ℕ
-node_entry_bytes e = be_bytes 8 e.offset ++ (be_bytes 4 e.size ++ e.key)
-
--- where each entry begins, counted from the first one, and where the last one ends
-abbrev pub table_bytes : ℕ → List IndexEntry → List ℕ
-table_bytes from [] = be_bytes 4 from
-table_bytes from (e ∷ es) = be_bytes 4 from ++ table_bytes (from + (12 + length e.key)) es
-
--- another node: four bytes of count, the places of the entries, and the entries
-abbrev pub node_bytes : List IndexEntry → List ℕ
-node_bytes es = be_bytes 4 (length es) ++ (table_bytes 0 es ++ flat_map node_entry_bytes es)
-
--- the content of a root: so many entries, and then nothing, or the sixteen bytes of a middle key, which are passed over
-pub record IsRoot (content : List ℕ) (count : ℕ) (es : List IndexEntry) (rest : List ℕ) : Type 0 where
-  pub entries : AreEntries es
-  pub many : length es ≡ count
-  pub whole : content ≡ root_bytes es ++ rest
-  pub behind : (length rest ≡ 0) ⊎ (length rest ≡ 16)
-
--- the content of another node
-pub record IsNode (content : List ℕ) (es : List IndexEntry) : Type 0 where
-  pub entries : AreEntries es
-  pub whole : content ≡ node_bytes es
-  pub small : length content < 2 ^ 32
-
--- ---- reading
-
 -- an entry whose key is one
 abbrev pub entry_of : ℕ → ℕ → List ℕ → Option IndexEntry
 entry_of offset size key = if is_some (key_at key) then Some (record { offset = offset; size = size; key = key }) else None
@@ -114,6 +66,10 @@ node_at content =
     let count = be_number 4 content in
     if nat_lt (length content) 8 || nat_lt (length content) (8 + 4 * count) || not (be_number 4 (drop 4 content) == 0) then None
     else node_entries_at count (drop 4 content) (drop (8 + 4 * count) content)
+
+-- the entries of a root
+abbrev pub root_entries_of : ℕ → List ℕ → Option (List IndexEntry)
+root_entries_of count content = root_at count content >>= λ x. Some x.0
 
 -- the entries of a root, and whether a middle key stands behind them
 abbrev pub root_node_at : ℕ → List ℕ → Option RootNode

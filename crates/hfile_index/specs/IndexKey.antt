@@ -22,23 +22,6 @@ pub record KeyParts : Type 0 where
 abbrev pub is_index_code : ℕ → Bool
 is_index_code n = (n == 4) || (n == 8) || (n == 12) || (n == 14) || (n == 255)
 
--- parts that an index key can hold
-pub record IsKeyParts (k : KeyParts) : Type 0 where
-  pub row_low : 1 ≤ length k.row
-  pub row_high : length k.row ≤ 32767
-  pub family_high : length k.family ≤ 127
-  pub qualifier_high : length k.qualifier ≤ 32767
-  pub ts_high : k.ts < 2 ^ 63
-  pub code : IsTrue (is_index_code k.code)
-
--- the qualifier, eight bytes of timestamp, and the type code
-abbrev pub version_spelling : List ℕ → ℕ → ℕ → List ℕ
-version_spelling qualifier ts code = qualifier ++ (be_bytes 8 ts ++ code ∷ [])
-
--- the bytes of an index key
-abbrev pub key_spelling : KeyParts → List ℕ
-key_spelling k = row_bytes k.row ++ (family_bytes k.family ++ version_spelling k.qualifier k.ts k.code)
-
 -- the parts that the key of a cell has
 abbrev pub parts_of_cell : Cell → KeyParts
 parts_of_cell c = record { row = c.row; family = c.family; qualifier = c.qualifier; ts = c.ts; code = code c.kind }

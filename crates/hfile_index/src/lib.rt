@@ -1,4 +1,4 @@
-//! The index of an HFile: its nodes, read exactly, and which block may have a key.
+//! The index of an HFile: its keys and its nodes, read exactly.
 #![tactic(auto)]
 
 pub mod entry;
@@ -11,4 +11,7 @@ pub use entry::IndexEntry;
 pub use fault::BadIndex;
 pub use key::IndexKey;
 pub use node::node_entries;
-pub use root::{RootNode, root_node};
+pub use root::{RootNode, root_entries, root_node};
+
+#[cfg(test)]
+mod tests;

@@ -1,6 +1,6 @@
 //! The root of an index.
 ghost use Rattle.std.specs.Prelude.{◌≡◌, option_map};
-ghost use Rattle.hfile_index.specs.Entries.{counted_at, root_entry_at, root_entries_at, root_node_at, Gives};
+ghost use Rattle.hfile_index.specs.Entries.{counted_at, root_entry_at, root_entries_at, root_entries_of, root_node_at, Gives};
 
 use crate::entry::{ReadEntry, entry_of, number_at, offset_at};
 use crate::{BadIndex, IndexEntry};
@@ -91,5 +91,23 @@ pub fn root_node(alloc: Global, content: &[u8], count: u32) -> Result<RootNode, 
         })
     } else {
         Err(BadIndex::BadIndex(0))
+    }
+}
+
+/// The entries in the content of a root that holds so many. Behind them nothing stands, or a middle key, which is passed
+/// over.
+///
+/// Source: HBase Reference Guide, HFile format, block index; `HFileBlockIndex`.
+pub fn root_entries(
+    alloc: Global,
+    content: &[u8],
+    count: u32,
+) -> Result<Items<IndexEntry>, BadIndex>
+    // Which entries they are, or that it is no root of so many.
+    ensures exact { Gives (λ x. x) result (root_entries_of count content.now) }
+{
+    match root_node(alloc, content, count) {
+        Ok(RootNode { entries, middle: _ }) => Ok(entries),
+        Err(fault) => Err(fault),
     }
 }

@@ -20,7 +20,8 @@ pub struct Info {
 fn is_encoding(pair: &(Blob, Blob)) -> bool
     ensures { result ≡ is_encoding pair.now }
 {
-    pair.0.as_slice() == b"DATA_BLOCK_ENCODING".as_slice() && pair.1.as_slice() != b"NONE".as_slice()
+    pair.0.as_slice() == b"DATA_BLOCK_ENCODING".as_slice()
+        && pair.1.as_slice() != b"NONE".as_slice()
 }
 
 /// Whether one of the pairs says that the data blocks are encoded.
@@ -133,8 +134,7 @@ pub fn read_info(alloc: Global, content: &[u8]) -> Result<Info, MetaError>
 /// There is one list of pairs for a content.
 pub fn one_info()
     ensures { (content : List ℕ) → HasOnePairs content }
-{
-}
+{}
 
 /// The second value where there is one, else the first.
 fn later<'a>(before: Option<&'a [u8]>, last: Option<&'a [u8]>) -> Option<&'a [u8]>

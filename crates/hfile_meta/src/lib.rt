@@ -8,7 +8,7 @@ pub mod trailer;
 pub mod written;
 
 pub use fault::MetaError;
-pub use info::Info;
+pub use info::{Info, read_info};
 pub use trailer::{TRAILER_LEN, Trailer, read_trailer};
 pub use written::write_trailer;
 

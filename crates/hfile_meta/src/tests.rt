@@ -171,3 +171,72 @@ fn prints_faults(rt: HostRuntime) -> Result<(), Fail> {
     }
     Ok(())
 }
+
+/// The message of a pair of a key and a value.
+fn pair(alloc: Global, key: &[u8], value: &[u8]) -> Result<Blob, NoMemory> {
+    let mut message = Blob::copy_of(alloc, b"")?;
+    put_bytes_field(&mut message, 1, key)?;
+    put_bytes_field(&mut message, 2, value)?;
+    Ok(message)
+}
+
+/// The content of a file info with these pairs, and a field that is passed over.
+fn info(alloc: Global, pairs: &[(&[u8], &[u8])]) -> Result<Blob, NoMemory> {
+    let mut message = Blob::copy_of(alloc, b"")?;
+    for (key, value) in pairs {
+        put_bytes_field(&mut message, 1, pair(alloc, key, value)?.as_slice())?;
+        put_varint_field(&mut message, 7, 300)?;
+    }
+    let mut content = Blob::copy_of(alloc, b"PBUF")?;
+    put_varint(&mut content, message.len() as u64)?;
+    content.add(message.as_slice())?;
+    Ok(content)
+}
+
+/// How many pairs a file info has, and whether its cells are numbered; or the fault.
+fn told_by(alloc: Global, content: &[u8]) -> Result<(usize, bool), MetaError> {
+    match read_info(alloc, content) {
+        Ok(info) => Ok((info.pairs.len(), info.with_numbers())),
+        Err(fault) => Err(fault),
+    }
+}
+
+const VERSION_ONE: (&[u8], &[u8]) = (b"KEY_VALUE_VERSION", b"\0\0\0\x01");
+
+const VERSION_TWO: (&[u8], &[u8]) = (b"KEY_VALUE_VERSION", b"\0\0\0\x02");
+
+const PLAIN: (&[u8], &[u8]) = (b"DATA_BLOCK_ENCODING", b"NONE");
+
+const ENCODED: (&[u8], &[u8]) = (b"DATA_BLOCK_ENCODING", b"PREFIX");
+
+#[test]
+fn reads_infos(rt: HostRuntime) -> Result<(), Fail> {
+    let content = info(rt.alloc(), &[])?;
+    assert!(rt; told_by(rt.alloc(), content.as_slice()) == Ok((0, false)));
+    let content = info(rt.alloc(), &[VERSION_ONE, PLAIN])?;
+    assert!(rt; told_by(rt.alloc(), content.as_slice()) == Ok((2, true)));
+    let content = info(rt.alloc(), &[VERSION_ONE, VERSION_TWO])?;
+    assert!(rt; told_by(rt.alloc(), content.as_slice()) == Ok((2, false)));
+    let content = info(rt.alloc(), &[VERSION_ONE, ENCODED])?;
+    assert!(rt; told_by(rt.alloc(), content.as_slice()) == Err(MetaError::Encoded));
+    for len in 0..content.len() {
+        assert!(rt; told_by(rt.alloc(), &content.as_slice()[..len]) == Err(MetaError::BadInfo(0)));
+    }
+    Ok(())
+}
+
+/// Contents that are no file info: a byte too many, a pair without a value, a pair that is no message.
+const NO_INFOS: [&[u8]; 4] = [
+    b"PBUF\0\0",
+    b"PBUF\x05\x0a\x03\x0a\x01k",
+    b"PBUF\x03\x0a\x01\x0a",
+    b"pbuf\0",
+];
+
+#[test]
+fn refuses_infos(rt: HostRuntime) -> Result<(), Fail> {
+    for content in NO_INFOS {
+        assert!(rt; told_by(rt.alloc(), content) == Err(MetaError::BadInfo(0)));
+    }
+    Ok(())
+}

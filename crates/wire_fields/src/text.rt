@@ -22,7 +22,9 @@ fn text_here<'a>(bytes: &'a [u8], field: &PlacedField, number: u32) -> Option<&'
     ensures { option_map (λ t. t.now) result ≡ text_here number (field.now.number, part_of bytes.now field.now.value) }
 {
     match field.value {
-        FieldValue::Bytes { from, len } if field.number == number => Some(text_at(bytes, from, len)),
+        FieldValue::Bytes { from, len } if field.number == number => Some(text_at(
+            bytes, from, len,
+        )),
         _ => None,
     }
 }
@@ -59,11 +61,7 @@ fn texts_of<'a>(
 /// The values of a message's field that are bytes, in their order, or none where the bytes are no message.
 ///
 /// Source: Protocol Buffers, Encoding, Message Structure.
-pub fn texts(
-    alloc: Global,
-    bytes: &[u8],
-    number: u32,
-) -> Result<Option<Vec<&[u8]>>, NoMemory>
+pub fn texts(alloc: Global, bytes: &[u8], number: u32) -> Result<Option<Vec<&[u8]>>, NoMemory>
     // What is answered is of the fields that the bytes are.
     ensures found { IfOk result (λ answer. IfSome answer (λ found. (parts : List (ℕ × Part)) × IsMessage bytes.now parts
         × (map (λ t. t.now) found.items ≡ texts number parts))) }

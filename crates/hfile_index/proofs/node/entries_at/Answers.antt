@@ -15,6 +15,6 @@ loop-left-preserved c =
     ap (λ k. Some (record { offset = c.in-Some.entry.offset; size = c.in-Some.entry.size; key = k }, c.in-Some.behind.now)) c.in_ok-copy_of.ensures ∙ c.in-Some.ensures in
     record {
       told = subst (λ (items : List IndexEntry). behind_front items (node_entries_at (c.loop-left.left - 1) ends c.in-Some.behind.now) ≡ all) (sym pushed)
-      (node-push c.loop-left.left c.loop-left.places.now ends c.loop-left.rest.now c.loop-left.entries.items e c.in-Some.behind.now all c.loop-left-test.true read c.split_at.ensures.back c.loop-left.invariant.told);
+          (node-push c.loop-left.left c.loop-left.places.now ends c.loop-left.rest.now c.loop-left.entries.items e c.in-Some.behind.now all c.loop-left-test.true read c.split_at.ensures.back c.loop-left.invariant.told);
       room = omega (arith, c.loop-left.invariant.room, ap length c.split_at.ensures.back, length-drop 4 c.loop-left.places.now);
     }
