@@ -1,15 +1,14 @@
 -- The nodes of an index (HBase Reference Guide, HFile format, block index; HFileBlockIndex): each entry has the place of
 -- a block, its size with its header, and a key.
-use Rattle.std.specs.Prelude.{◌≡◌, ◌<◌, ◌⊎◌, ℕ, zero, suc, ◌+◌, ◌-◌, ◌*◌, ◌^◌, ℤ, pos, negsuc, Bool, ◌==◌, ◌||◌, not, nat_lt, if◌then◌else◌, List, [], ◌∷◌, ◌++◌, length, take, drop, Option, Some, None, is_some, Result, Ok, Err}
-use Rattle.std.specs.List.{flat_map, AllByRecursion}
+use Rattle.std.specs.Prelude.{◌≡◌, ℕ, zero, suc, ◌+◌, ◌-◌, ◌*◌, ℤ, pos, negsuc, ◌==◌, ◌||◌, not, nat_lt, if◌then◌else◌, List, [], ◌∷◌, length, take, drop, Option, Some, None, is_some, Result, Ok, Err}
 use Rattle.hb_wire.specs.declared.fault.WireError.{WireError}
-use Rattle.hb_wire.specs.Fixed.{be_bytes, be_number}
-use Rattle.hb_wire.specs.Vlong.{vlong, vlong_at}
+use Rattle.hb_wire.specs.Fixed.{be_number}
+use Rattle.hb_wire.specs.Vlong.{vlong_at}
 use Rattle.hfile_index.specs.declared.entry.IndexEntry.{IndexEntry}
 use Rattle.hfile_index.specs.declared.fault.BadIndex.{BadIndex}
 use Rattle.hfile_index.specs.declared.fault.BadIndex.TheVariants as errors
 use Rattle.hfile_index.specs.declared.root.RootNode.{RootNode}
-use Rattle.hfile_index.specs.IndexKey.{KeyParts, IsKeyParts, key_spelling, key_at, ◌>>=◌}
+use Rattle.hfile_index.specs.IndexKey.{key_at, ◌>>=◌}
 
 -- an entry whose key is one
 abbrev pub entry_of : ℕ → ℕ → List ℕ → Option IndexEntry

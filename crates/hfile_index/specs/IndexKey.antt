@@ -1,14 +1,13 @@
 -- The keys of an index (HBase Reference Guide, HFile format, block index; KeyValue): a cell's key without a sequence
 -- number. A writer may put one that is shortened between two blocks (HBase HFileWriterImpl.getMidpoint): its family may
 -- be empty, and its type code 255.
-use Rattle.std.specs.Prelude.{◌<◌, ◌≤◌, ◌≡◌, ℕ, ◌+◌, ◌-◌, ◌^◌, Bool, ◌==◌, ◌||◌, not, nat_lt, nat_le, if◌then◌else◌, List, [], ◌∷◌, ◌++◌, length, take, drop, slice_index, Option, Some, None, IsTrue}
+use Rattle.std.specs.Prelude.{ℕ, ◌+◌, ◌-◌, ◌^◌, Bool, ◌==◌, ◌||◌, not, nat_lt, nat_le, if◌then◌else◌, List, [], ◌∷◌, length, take, drop, slice_index, Option, Some, None}
 use Rattle.std.specs.declared.cmp.Ordering.{Ordering}
 use Rattle.std.specs.Ordering.{on, then_cmp}
-use Rattle.hb_wire.specs.Fixed.{be_bytes, be_number}
+use Rattle.hb_wire.specs.Fixed.{be_number}
 use Rattle.hb_cell.specs.declared.cell.Cell.{Cell}
 use Rattle.hb_cell.specs.Kinds.{code}
 use Rattle.hb_cell.specs.Order.{bytes_cmp, newest_cmp}
-use Rattle.hb_cell.specs.Stored.{row_bytes, family_bytes}
 
 -- the parts of an index key
 pub record KeyParts : Type 0 where

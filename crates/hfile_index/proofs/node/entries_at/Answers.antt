@@ -1,4 +1,4 @@
-use Rattle.std.proofs.Common.{◌≡◌, ◌-◌, List, [], ◌∷◌, ◌++◌, drop, length, sym, subst, ap, ◌∙◌, Some, arith}
+use Rattle.std.proofs.Common.{◌≡◌, ◌-◌, List, [], ◌∷◌, ◌++◌, length, sym, subst, ap, ◌∙◌, Some, arith}
 use Rattle.std.proofs.lemmas.List.{length-drop}
 use Rattle.hfile_index.specs.declared.entry.IndexEntry.{IndexEntry}
 use Rattle.hfile_index.specs.Entries.{node_entry_at, node_entries_at}
