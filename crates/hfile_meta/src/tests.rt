@@ -193,11 +193,22 @@ fn info(alloc: Global, pairs: &[(&[u8], &[u8])]) -> Result<Blob, NoMemory> {
     Ok(content)
 }
 
-/// How many pairs a file info has, and whether its cells are numbered; or the fault.
-fn told_by(alloc: Global, content: &[u8]) -> Result<(usize, bool), MetaError> {
+/// What a test compares of a file info: how many pairs it has, and whether its cells are numbered.
+type InfoTold = Result<(usize, bool), MetaError>;
+
+/// What a content tells, or the fault.
+fn told_by(alloc: Global, content: &[u8]) -> InfoTold {
     match read_info(alloc, content) {
         Ok(info) => Ok((info.pairs.len(), info.with_numbers())),
         Err(fault) => Err(fault),
+    }
+}
+
+/// What a file info with these pairs tells.
+fn told_of(alloc: Global, pairs: &[(&[u8], &[u8])]) -> InfoTold {
+    match info(alloc, pairs) {
+        Ok(content) => told_by(alloc, content.as_slice()),
+        Err(_full) => Err(MetaError::NoMemory),
     }
 }
 
@@ -210,22 +221,17 @@ const PLAIN: (&[u8], &[u8]) = (b"DATA_BLOCK_ENCODING", b"NONE");
 const ENCODED: (&[u8], &[u8]) = (b"DATA_BLOCK_ENCODING", b"PREFIX");
 
 #[test]
-fn reads_infos(rt: HostRuntime) -> Result<(), Fail> {
-    let content = info(rt.alloc(), &[])?;
-    assert!(rt; told_by(rt.alloc(), content.as_slice()) == Ok((0, false)));
-    let content = info(rt.alloc(), &[VERSION_ONE, PLAIN])?;
-    assert!(rt; told_by(rt.alloc(), content.as_slice()) == Ok((2, true)));
-    let content = info(rt.alloc(), &[VERSION_ONE, VERSION_TWO])?;
-    assert!(rt; told_by(rt.alloc(), content.as_slice()) == Ok((2, false)));
-    let content = info(rt.alloc(), &[VERSION_ONE, ENCODED])?;
-    assert!(rt; told_by(rt.alloc(), content.as_slice()) == Err(MetaError::Encoded));
-    for len in 0..content.len() {
-        assert!(rt; told_by(rt.alloc(), &content.as_slice()[..len]) == Err(MetaError::BadInfo(0)));
-    }
-    Ok(())
+fn reads_infos(rt: HostRuntime) {
+    assert!(rt; told_of(rt.alloc(), &[]) == Ok((0, false)));
+    assert!(rt; told_of(rt.alloc(), &[VERSION_ONE, PLAIN]) == Ok((2, true)));
+    assert!(rt; told_of(rt.alloc(), &[VERSION_ONE, VERSION_TWO]) == Ok((2, false)));
+    assert!(rt; told_of(rt.alloc(), &[VERSION_ONE, ENCODED]) == Err(MetaError::Encoded));
 }
 
-/// Contents that are no file info: a byte too many, a pair without a value, a pair that is no message.
+/// A file info with one pair, of the key `k` and the value `v`.
+const ONE_PAIR: &[u8; 13] = b"PBUF\x08\x0a\x06\x0a\x01k\x12\x01v";
+
+/// Contents that are no file info: a byte too many, a pair without a value, a pair that is no message, another front.
 const NO_INFOS: [&[u8]; 4] = [
     b"PBUF\0\0",
     b"PBUF\x05\x0a\x03\x0a\x01k",
@@ -234,9 +240,12 @@ const NO_INFOS: [&[u8]; 4] = [
 ];
 
 #[test]
-fn refuses_infos(rt: HostRuntime) -> Result<(), Fail> {
+fn refuses_infos(rt: HostRuntime) {
+    assert!(rt; told_by(rt.alloc(), ONE_PAIR) == Ok((1, false)));
+    for len in 0..ONE_PAIR.len() {
+        assert!(rt; told_by(rt.alloc(), &ONE_PAIR[..len]) == Err(MetaError::BadInfo(0)));
+    }
     for content in NO_INFOS {
         assert!(rt; told_by(rt.alloc(), content) == Err(MetaError::BadInfo(0)));
     }
-    Ok(())
 }
