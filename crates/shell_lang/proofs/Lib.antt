@@ -1,5 +1,3 @@
-pub mod BlanksLemmas
 pub mod TextLemmas
-pub mod RepeatedLemmas
-pub mod PieceLemmas
 pub mod LineLemmas
+pub mod ScriptLemmas

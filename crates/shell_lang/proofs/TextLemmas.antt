@@ -1,231 +1,100 @@
-use Rattle.std.proofs.Common.{◌≡◌, ℕ, zero, suc, ◌+◌, ◌*◌, ◌-◌, ◌<◌, ◌≤◌, List, [], ◌∷◌, Bool, true, false, ◌||◌, ◌&&◌, ◌⊎◌, inl, inr, nat_le, cond, Option, Some, None, option_map, refl, sym, ◌∙◌, subst, nat_eq, arith}
-use Rattle.std.proofs.lemmas.Bool.Decides.{nat_tests}
-use Rattle.std.specs.List.{AllByRecursion, list_any}
-use Rattle.hb_grammar.specs.Grammar.{Follows, Refuses}
-use Rattle.hb_grammar.specs.declared.class.Class.TheVariants.{LowerHex}
-use Rattle.hb_grammar.specs.Class.{has, is_digit}
-use Rattle.shell_lang.specs.declared.argument.Argument.{Argument}
-use Rattle.shell_lang.specs.declared.argument.Argument.TheVariants.{Named, Run, Column, Qualifier, Part, OneDot, TwoDots}
-use Rattle.shell_lang.specs.declared.text.Place.TheVariants.{Between, Escape, First, Second}
-use Rattle.shell_lang.specs.Argument.{Means, IsLeft, has_byte, is_open, next}
-use Rattle.shell_lang.specs.Text.{Holds, TextFrom, digit_value, has_value, is_open_at, is_plain, lower_digits, meaning}
-use Rattle.shell_lang.specs.TextLaws.{cond_true, cond_false}
+use Rattle.std.proofs.Common.{◌≡◌, ℕ, ◌<◌, ◌^◌, List, Bool, true, false, IfSome, IsSome, ap, ◌∙◌, arith, inl, inr}
+use Rattle.hb_grammar.specs.Joined.{Joined}
+use Rattle.hb_grammar.specs.declared.class.Class.TheVariants.{FamilyStart}
+use Rattle.hb_names.specs.FamilyName.{IsFamilyName}
+use Rattle.shell_text.specs.declared.argument.Argument.{Argument}
+use Rattle.shell_text.specs.declared.text.Place.TheVariants.{Between}
+use Rattle.shell_text.specs.Blanks.{BlanksFrom}
+use Rattle.shell_text.specs.Text.{IsText, meaning}
+use Rattle.shell_line.specs.Table.{IsDelete, IsDeleted, IsItem, IsPut, IsStamp, IsTwo, IsVersionStamp, cell_value, column, family, name, row}
+use Rattle.shell_value.specs.Cut.{before, has_mark}
+use Rattle.shell_value.specs.Quotes.{meant, number_of, rest_of, text_of, value_of}
+use Rattle.shell_value.proofs.ColumnLemmas.{IsColumn-Means, Lacks-IsFamilyName, before-IsColumn, has_mark-middle, no_mark}
+use Rattle.shell_value.proofs.FitsLemmas.{HasOne, HasOne-IsStamp, HasOne-IsVersionStamp, number_of-fits}
+use Rattle.shell_value.proofs.NameLemmas.{Means-Named}
+use Rattle.shell_value.proofs.PieceLemmas.{IsCut-IsItem, IsCut-IsQuoted}
+use Rattle.shell_value.proofs.UnescapeLemmas.{IsSome-IsText, Means-meant}
 
--- nothing is left where nothing may be
-IsLeft-None : (bytes : List ℕ) → IsLeft bytes None → ⊥
-IsLeft-None [] left = left
-IsLeft-None (x ∷ xs) left = left
+-- the texts of a line of two arguments
+pub record TwoTexts (first second : Argument) (bytes : List ℕ) : Type 0 where
+  pub one : IsText first (text_of bytes)
+  pub two : IsText second (text_of (rest_of bytes))
 
--- a meaning that begins with a byte is what is left behind that byte
-map_forth : (argument : Argument) (byte : ℕ) (q : Option Argument) (o : Option (List ℕ)) → next argument byte ≡ q →
-    Holds (option_map (λ rest. byte ∷ rest) o) (Means argument) → Holds o (λ rest. IsLeft rest q)
-map_forth argument byte q None e h = h
-map_forth argument byte q (Some rest) e h = subst (IsLeft rest) e h
+pub TwoTexts-IsTwo : (first second : Argument) (bytes : List ℕ) → IsTwo first second bytes → TwoTexts first second bytes
+TwoTexts-IsTwo first second bytes line =
+    let front = IsCut-IsQuoted true first (Joined (IsItem second) (BlanksFrom false)) bytes line in
+    let back = IsCut-IsItem second (BlanksFrom false) (rest_of bytes) front.in_rest in
+    record { one = front.means; two = back.means }
 
-map_back : (argument : Argument) (byte : ℕ) (q : Option Argument) (o : Option (List ℕ)) → next argument byte ≡ q →
-    Holds o (λ rest. IsLeft rest q) → Holds (option_map (λ rest. byte ∷ rest) o) (Means argument)
-map_back argument byte q None e h = h
-map_back argument byte q (Some rest) e h = subst (IsLeft rest) (sym e) h
+-- the texts of a line that puts, and its timestamp
+pub record PutTexts (bytes : List ℕ) : Type 0 where
+  pub in_table : IsText name (text_of bytes)
+  pub in_row : IsText row (text_of (rest_of bytes))
+  pub in_column : IsText column (text_of (rest_of (rest_of bytes)))
+  pub in_value : IsText cell_value (text_of (rest_of (rest_of (rest_of bytes))))
+  pub stamp : IsStamp (rest_of (rest_of (rest_of (rest_of bytes))))
 
-none_left : (o : Option (List ℕ)) → Holds o (λ rest. IsLeft rest None) → ⊥
-none_left None h = h
-none_left (Some rest) h = IsLeft-None rest h
+pub PutTexts-IsPut : (bytes : List ℕ) → IsPut bytes → PutTexts bytes
+PutTexts-IsPut bytes line =
+    let table = IsCut-IsQuoted true name (Joined (IsItem row) (Joined (IsItem column) (Joined (IsItem cell_value) IsStamp))) bytes line in
+    let rows = IsCut-IsItem row (Joined (IsItem column) (Joined (IsItem cell_value) IsStamp)) (rest_of bytes) table.in_rest in
+    let columns = IsCut-IsItem column (Joined (IsItem cell_value) IsStamp) (rest_of (rest_of bytes)) rows.in_rest in
+    let values = IsCut-IsItem cell_value IsStamp (rest_of (rest_of (rest_of bytes))) columns.in_rest in
+    record { in_table = table.means; in_row = rows.means; in_column = columns.means; in_value = values.means; stamp = values.in_rest }
 
--- a byte that an argument doesn't go on with begins no meaning
-pub refused_byte : (argument : Argument) (byte : ℕ) (o : Option (List ℕ)) → next argument byte ≡ None →
-    Holds (option_map (λ rest. byte ∷ rest) o) (Means argument) → ⊥
-refused_byte argument byte o e h = none_left o (map_forth argument byte None o e h)
+-- the family of a column
+pub family-column : (text : List ℕ) → IsText column text → IsFamilyName (before 58 (meant text))
+family-column text h = before-IsColumn (meant text) (IsColumn-Means (meant text) (Means-meant column text h))
 
--- a byte that stands for itself
-plain_byte : (byte : ℕ) (rest : List ℕ) → is_plain byte ≡ true → meaning Between (byte ∷ rest) ≡ option_map (λ more. byte ∷ more) (meaning Between rest)
-plain_byte byte rest e = cond_true (is_plain byte) _ _ e
+pub fits-HasOne : (bytes : List ℕ) → HasOne 9223372036854775807 bytes → IfSome (number_of bytes) (λ n. n < 2 ^ 64)
+fits-HasOne bytes one = number_of-fits 9223372036854775807 (2 ^ 64) bytes (omega arith) (omega arith) one
 
-pub Follows-plain : (argument left : Argument) (byte : ℕ) → is_plain byte ≡ true → next argument byte ≡ Some left →
-    Follows (TextFrom Between argument) byte (TextFrom Between left)
-Follows-plain argument left byte plain e = record {
-  forth = λ rest h. map_forth argument byte (Some left) (meaning Between rest) e (subst (λ o. Holds o (Means argument)) (plain_byte byte rest plain) h);
-  back = λ rest h. subst (λ o. Holds o (Means argument)) (sym (plain_byte byte rest plain)) (map_back argument byte (Some left) (meaning Between rest) e h);
-}
+-- what is deleted, and the number behind it
+pub record DeletedTexts (bytes : List ℕ) : Type 0 where
+  pub some : IsSome (meaning Between (text_of bytes))
+  pub family : has_mark 58 (value_of bytes) ≡ false → IsFamilyName (value_of bytes)
+  pub column : has_mark 58 (value_of bytes) ≡ true → IsFamilyName (before 58 (value_of bytes))
+  pub one : HasOne 9223372036854775807 (rest_of bytes)
 
-pub Refuses-plain : (argument : Argument) (byte : ℕ) → is_plain byte ≡ true → next argument byte ≡ None → Refuses (TextFrom Between argument) byte
-Refuses-plain argument byte plain e rest h =
-    refused_byte argument byte (meaning Between rest) e (subst (λ o. Holds o (Means argument)) (plain_byte byte rest plain) h)
+true_false : (b : Bool) → b ≡ true → b ≡ false → ⊥
+true_false true e f = absurd (cc)
+true_false false e f = absurd (cc)
 
--- another byte than the backslash begins no escape
-pub Refuses-other : (argument : Argument) (byte : ℕ) → is_plain byte ≡ false → nat_eq byte 92 ≡ false → Refuses (TextFrom Between argument) byte
-Refuses-other argument byte plain other rest h =
-    subst (λ o. Holds o (Means argument)) (cond_false (is_plain byte) _ _ plain ∙ cond_false (nat_eq byte 92) _ _ other) h
+of_column : (bytes : List ℕ) → Joined (IsItem column) IsVersionStamp bytes → DeletedTexts bytes
+of_column bytes line =
+    let cut = IsCut-IsItem column IsVersionStamp bytes line in
+    let read = IsColumn-Means (value_of bytes) (Means-meant column (text_of bytes) cut.means) in
+    let marked : has_mark 58 (value_of bytes) ≡ true = ap (has_mark 58) read.whole ∙ has_mark-middle 58 read.family read.qualifier in
+    record {
+      some = IsSome-IsText column (text_of bytes) cut.means;
+      family = λ none. absurd (true_false (has_mark 58 (value_of bytes)) marked none);
+      column = λ _. before-IsColumn (value_of bytes) read;
+      one = HasOne-IsVersionStamp (rest_of bytes) cut.in_rest;
+    }
 
--- the backslash begins an escape
-pub Follows-backslash : (argument : Argument) (byte : ℕ) → byte ≡ 92 → Follows (TextFrom Between argument) byte (TextFrom Escape argument)
-Follows-backslash argument byte e =
-    subst (λ (b : ℕ). Follows (TextFrom Between argument) b (TextFrom Escape argument)) (sym e) (record { forth = λ rest h. h; back = λ rest h. h })
+of_family : (bytes : List ℕ) → Joined (IsItem family) IsStamp bytes → DeletedTexts bytes
+of_family bytes line =
+    let cut = IsCut-IsItem family IsStamp bytes line in
+    let named : IsFamilyName (value_of bytes) = (Means-Named FamilyStart 126 (value_of bytes)).0 (Means-meant family (text_of bytes) cut.means) in
+    let none : has_mark 58 (value_of bytes) ≡ false = no_mark 58 (value_of bytes) (Lacks-IsFamilyName (value_of bytes) named) in
+    record {
+      some = IsSome-IsText family (text_of bytes) cut.means;
+      family = λ _. named;
+      column = λ marked. absurd (true_false (has_mark 58 (value_of bytes)) marked none);
+      one = HasOne-IsStamp (rest_of bytes) cut.in_rest;
+    }
 
--- the x of an escape
-pub Follows-x : (argument : Argument) (byte : ℕ) → byte ≡ 120 → Follows (TextFrom Escape argument) byte (TextFrom First argument)
-Follows-x argument byte e =
-    subst (λ (b : ℕ). Follows (TextFrom Escape argument) b (TextFrom First argument)) (sym e) (record { forth = λ rest h. h; back = λ rest h. h })
+deleted_texts : (bytes : List ℕ) → IsDeleted bytes → DeletedTexts bytes
+deleted_texts bytes (inl line) = of_column bytes line
+deleted_texts bytes (inr line) = of_family bytes line
 
-pub Refuses-x : (argument : Argument) (byte : ℕ) → nat_eq byte 120 ≡ false → Refuses (TextFrom Escape argument) byte
-Refuses-x argument byte other rest h = subst (λ o. Holds o (Means argument)) (cond_false (nat_eq byte 120) _ _ other) h
+pub record DeleteTexts (bytes : List ℕ) : Type 0 where
+  pub in_table : IsText name (text_of bytes)
+  pub in_row : IsText row (text_of (rest_of bytes))
+  pub deleted : DeletedTexts (rest_of (rest_of bytes))
 
--- the digits of an escape
-pub Follows-first : (argument : Argument) (byte : ℕ) → has LowerHex byte ≡ true →
-    Follows (TextFrom First argument) byte (TextFrom (Second (digit_value byte)) argument)
-Follows-first argument byte digit = record {
-  forth = λ rest h. subst (λ o. Holds o (Means argument)) (cond_true (has LowerHex byte) _ _ digit) h;
-  back = λ rest h. subst (λ o. Holds o (Means argument)) (sym (cond_true (has LowerHex byte) _ _ digit)) h;
-}
-
-pub Refuses-first : (argument : Argument) (byte : ℕ) → has LowerHex byte ≡ false → Refuses (TextFrom First argument) byte
-Refuses-first argument byte other rest h = subst (λ o. Holds o (Means argument)) (cond_false (has LowerHex byte) _ _ other) h
-
-pub Follows-second : (argument left : Argument) (high byte : ℕ) → has LowerHex byte ≡ true → next argument (16 * high + digit_value byte) ≡ Some left →
-    Follows (TextFrom (Second high) argument) byte (TextFrom Between left)
-Follows-second argument left high byte digit e = record {
-  forth = λ rest h. map_forth argument (16 * high + digit_value byte) (Some left) (meaning Between rest) e
-      (subst (λ o. Holds o (Means argument)) (cond_true (has LowerHex byte) _ _ digit) h);
-  back = λ rest h. subst (λ o. Holds o (Means argument)) (sym (cond_true (has LowerHex byte) _ _ digit))
-      (map_back argument (16 * high + digit_value byte) (Some left) (meaning Between rest) e h);
-}
-
-pub Refuses-second : (argument : Argument) (high byte : ℕ) → has LowerHex byte ≡ false → Refuses (TextFrom (Second high) argument) byte
-Refuses-second argument high byte other rest h = subst (λ o. Holds o (Means argument)) (cond_false (has LowerHex byte) _ _ other) h
-
-pub Refuses-second_digit : (argument : Argument) (high byte : ℕ) → has LowerHex byte ≡ true → next argument (16 * high + digit_value byte) ≡ None →
-    Refuses (TextFrom (Second high) argument) byte
-Refuses-second_digit argument high byte digit e rest h =
-    refused_byte argument (16 * high + digit_value byte) (meaning Between rest) e
-    (subst (λ o. Holds o (Means argument)) (cond_true (has LowerHex byte) _ _ digit) h)
-
--- a choice of the same
-cond_same : {V : Type 0} (b : Bool) (x : V) → cond b x x ≡ x
-cond_same true x = refl
-cond_same false x = refl
-
--- an argument that is closed goes on with no byte
-closed_byte : (argument : Argument) (byte : ℕ) → is_open argument ≡ false → next argument byte ≡ None
-closed_byte (Named first more) byte e = absurd (cc)
-closed_byte (Run class (suc least) more) byte e = absurd (cc)
-closed_byte (Run class zero (suc more)) byte e = absurd (cc)
-closed_byte (Run class zero zero) byte e = cond_same (has_byte class byte) None
-closed_byte Column byte e = absurd (cc)
-closed_byte (Qualifier more) byte e = absurd (cc)
-closed_byte Part byte e = absurd (cc)
-closed_byte OneDot byte e = absurd (cc)
-closed_byte TwoDots byte e = absurd (cc)
-
--- so no escape of it can be completed
-closed_at : (argument : Argument) (byte : ℕ) (b : Bool) (o : Option (List ℕ)) → next argument byte ≡ None →
-    Holds (cond b (option_map (λ rest. byte ∷ rest) o) None) (Means argument) → ⊥
-closed_at argument byte true o e h = refused_byte argument byte o e h
-closed_at argument byte false o e h = h
-
-closed_second : (argument : Argument) (high : ℕ) (bytes : List ℕ) → is_open argument ≡ false → TextFrom (Second high) argument bytes → ⊥
-closed_second argument high [] e h = h
-closed_second argument high (x ∷ xs) e h =
-    closed_at argument (16 * high + digit_value x) (has LowerHex x) (meaning Between xs) (closed_byte argument (16 * high + digit_value x) e) h
-
-closed_choice : (argument : Argument) (b : Bool) (o : Option (List ℕ)) → (Holds o (Means argument) → ⊥) → Holds (cond b o None) (Means argument) → ⊥
-closed_choice argument true o never h = never h
-closed_choice argument false o never h = h
-
-closed_first : (argument : Argument) (bytes : List ℕ) → is_open argument ≡ false → TextFrom First argument bytes → ⊥
-closed_first argument [] e h = h
-closed_first argument (x ∷ xs) e h =
-    closed_choice argument (has LowerHex x) (meaning (Second (digit_value x)) xs) (closed_second argument (digit_value x) xs e) h
-
-closed_escape : (argument : Argument) (bytes : List ℕ) → is_open argument ≡ false → TextFrom Escape argument bytes → ⊥
-closed_escape argument [] e h = h
-closed_escape argument (x ∷ xs) e h = closed_choice argument (nat_eq x 120) (meaning First xs) (closed_first argument xs e) h
-
-pub Refuses-backslash : (argument : Argument) (byte : ℕ) → byte ≡ 92 → is_open argument ≡ false → Refuses (TextFrom Between argument) byte
-Refuses-backslash argument byte e closed rest h =
-    closed_escape argument rest closed ((Follows-backslash argument byte e).forth rest h)
-
--- a test that none of some bytes passes, one of them fails
-abbrev pub NoDigit : (ℕ → Bool) → Type 0
-NoDigit test = list_any test lower_digits ≡ false
-
-or_false : (a b : Bool) → a || b ≡ false → (a ≡ false) × (b ≡ false)
-or_false false b e = (refl, e)
-or_false true b e = absurd (cc)
-
-each_fails : (test : ℕ → Bool) (xs : List ℕ) → list_any test xs ≡ false → AllByRecursion (λ x. test x ≡ false) xs
-each_fails test [] e = tt
-each_fails test (x ∷ xs) e = let both = or_false (test x) (list_any test xs) e in (both.0, each_fails test xs both.1)
-
--- each lower-case digit is one of sixteen
-decimal_fails : (test : ℕ → Bool) (k : ℕ) → k < 10 → NoDigit test → test (48 + k) ≡ false
-decimal_fails test zero below e = (each_fails test lower_digits e).0
-decimal_fails test (suc zero) below e = (each_fails test lower_digits e).1.0
-decimal_fails test (suc (suc zero)) below e = (each_fails test lower_digits e).1.1.0
-decimal_fails test (suc (suc (suc zero))) below e = (each_fails test lower_digits e).1.1.1.0
-decimal_fails test (suc (suc (suc (suc zero)))) below e = (each_fails test lower_digits e).1.1.1.1.0
-decimal_fails test (suc (suc (suc (suc (suc zero))))) below e = (each_fails test lower_digits e).1.1.1.1.1.0
-decimal_fails test (suc (suc (suc (suc (suc (suc zero)))))) below e = (each_fails test lower_digits e).1.1.1.1.1.1.0
-decimal_fails test (suc (suc (suc (suc (suc (suc (suc zero))))))) below e = (each_fails test lower_digits e).1.1.1.1.1.1.1.0
-decimal_fails test (suc (suc (suc (suc (suc (suc (suc (suc zero)))))))) below e = (each_fails test lower_digits e).1.1.1.1.1.1.1.1.0
-decimal_fails test (suc (suc (suc (suc (suc (suc (suc (suc (suc zero))))))))) below e = (each_fails test lower_digits e).1.1.1.1.1.1.1.1.1.0
-decimal_fails test (suc (suc (suc (suc (suc (suc (suc (suc (suc (suc k)))))))))) below e = absurd (omega arith)
-
-letter_fails : (test : ℕ → Bool) (k : ℕ) → k < 6 → NoDigit test → test (97 + k) ≡ false
-letter_fails test zero below e = (each_fails test lower_digits e).1.1.1.1.1.1.1.1.1.1.0
-letter_fails test (suc zero) below e = (each_fails test lower_digits e).1.1.1.1.1.1.1.1.1.1.1.0
-letter_fails test (suc (suc zero)) below e = (each_fails test lower_digits e).1.1.1.1.1.1.1.1.1.1.1.1.0
-letter_fails test (suc (suc (suc zero))) below e = (each_fails test lower_digits e).1.1.1.1.1.1.1.1.1.1.1.1.1.0
-letter_fails test (suc (suc (suc (suc zero)))) below e = (each_fails test lower_digits e).1.1.1.1.1.1.1.1.1.1.1.1.1.1.0
-letter_fails test (suc (suc (suc (suc (suc zero))))) below e = (each_fails test lower_digits e).1.1.1.1.1.1.1.1.1.1.1.1.1.1.1.0
-letter_fails test (suc (suc (suc (suc (suc (suc k)))))) below e = absurd (omega arith)
-
-both_true : (a b : Bool) → a && b ≡ true → (a ≡ true) × (b ≡ true)
-both_true true true e = (refl, refl)
-both_true true false e = absurd (cc)
-both_true false b e = absurd (cc)
-
-either_true : (a b : Bool) → a || b ≡ true → (a ≡ true) ⊎ (b ≡ true)
-either_true true b e = inl refl
-either_true false b e = inr e
-
-within : (low high byte : ℕ) → nat_le low byte && nat_le byte high ≡ true → (low ≤ byte) × (byte ≤ high)
-within low high byte e =
-    let both = both_true (nat_le low byte) (nat_le byte high) e in
-    let low_test : nat_le low byte ≡ true = both.0 in
-    let high_test : nat_le byte high ≡ true = both.1 in
-    (grind (arith, nat_tests), grind (arith, nat_tests))
-
-digit_fails : (test : ℕ → Bool) (byte : ℕ) → has LowerHex byte ≡ true → NoDigit test → test byte ≡ false
-unfolding has
-digit_fails test byte digit e =
-    elim (either_true (is_digit byte) (nat_le 97 byte && nat_le byte 102) digit) as (λ _. test byte ≡ false) [
-      | inl decimal ↦
-          let bounds = within 48 57 byte decimal in
-          let same : 48 + (byte - 48) ≡ byte = omega (arith, bounds.0) in
-          subst (λ (x : ℕ). test x ≡ false) same (decimal_fails test (byte - 48) (omega (arith, bounds.0, bounds.1)) e)
-      | inr letter ↦
-          let bounds = within 97 102 byte letter in
-          let same : 97 + (byte - 97) ≡ byte = omega (arith, bounds.0) in
-          subst (λ (x : ℕ). test x ≡ false) same (letter_fails test (byte - 97) (omega (arith, bounds.0, bounds.1)) e)
-    ]
-
--- no value where none is there
-no_value : {V : Type 0} (o : Option V) → has_value o ≡ false → o ≡ None
-no_value None e = refl
-no_value (Some v) e = absurd (cc)
-
-first_at : (argument : Argument) (high byte : ℕ) (o : Option (List ℕ)) → is_open_at argument high ≡ false → (b : Bool) → has LowerHex byte ≡ b →
-    Holds (cond b (option_map (λ rest. (16 * high + digit_value byte) ∷ rest) o) None) (Means argument) → ⊥
-first_at argument high byte o e false other h = h
-first_at argument high byte o e true digit h =
-    let none = no_value (next argument (16 * high + digit_value byte))
-    (digit_fails (λ d. has_value (next argument (16 * high + digit_value d))) byte digit e) in
-    refused_byte argument (16 * high + digit_value byte) o none h
-
-second_closed : (argument : Argument) (high : ℕ) (bytes : List ℕ) → is_open_at argument high ≡ false → TextFrom (Second high) argument bytes → ⊥
-second_closed argument high [] e h = h
-second_closed argument high (x ∷ xs) e h = first_at argument high x (meaning Between xs) e (has LowerHex x) refl h
-
--- a first digit behind which no second may come is refused
-pub Refuses-first_digit : (argument : Argument) (byte : ℕ) → has LowerHex byte ≡ true → is_open_at argument (digit_value byte) ≡ false →
-    Refuses (TextFrom First argument) byte
-Refuses-first_digit argument byte digit e rest h = second_closed argument (digit_value byte) rest e ((Follows-first argument byte digit).forth rest h)
+pub DeleteTexts-IsDelete : (bytes : List ℕ) → IsDelete bytes → DeleteTexts bytes
+DeleteTexts-IsDelete bytes line =
+    let table = IsCut-IsQuoted true name (Joined (IsItem row) IsDeleted) bytes line in
+    let rows = IsCut-IsItem row IsDeleted (rest_of bytes) table.in_rest in
+    record { in_table = table.means; in_row = rows.means; deleted = deleted_texts (rest_of (rest_of bytes)) rows.in_rest }

@@ -1,8 +1,3 @@
-pub mod Blanks
-pub mod Argument
-pub mod Text
-pub mod TextLaws
-pub mod Repeated
-pub mod RepeatedLaws
-pub mod Table
+pub mod Jobs
 pub mod Line
+pub mod Script

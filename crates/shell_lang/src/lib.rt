@@ -1,23 +1,17 @@
-//! The language of the shell's scripts: the grammar of each kind of line, and the place where a line
-//! leaves it.
+//! The language of the shell's scripts: what each line asks for, and a whole script.
 //!
-//! A line is the word of its kind and arguments. The tables are definitions in `specs/`. [`check_line`]
-//! answers for every byte string: a line of one of the kinds that it is given, or the length of the
-//! longest prefix with which such a line begins.
+//! The grammar of a line and the place where a line leaves it are of `shell_line`, and what its arguments mean is
+//! of `shell_value`. Here a line becomes a job of `plain_model`, and a script the jobs of its lines.
 #![tactic(auto)]
 
-pub mod argument;
-pub mod blanks;
-mod form;
-pub mod line;
-mod line_form;
-pub mod line_kind;
-pub mod padded;
-mod piece;
-pub mod repeated;
+mod delete;
+pub mod jobs;
+mod lines;
+mod put;
+pub mod script;
+mod short;
 #[cfg(test)]
 mod tests;
-pub mod text;
 
-pub use line::check_line;
-pub use line_kind::LineKind;
+pub use jobs::read_job;
+pub use script::{NumberedJob, ScriptError, parse_lines};

@@ -1,8 +1,10 @@
-//! Lines of each kind, and the places where others leave the grammar.
-use crate::{LineKind, check_line};
+//! What lines ask for, and the places of bad ones.
+use crate::{ScriptError, parse_lines};
+use shell_line::LineKind;
+use std::alloc::Global;
+use std::test::Fail;
 
-const KINDS: [LineKind; 19] = [
-    LineKind::Create,
+const KINDS: [LineKind; 18] = [
     LineKind::Put,
     LineKind::Delete,
     LineKind::Scan,
@@ -23,94 +25,118 @@ const KINDS: [LineKind; 19] = [
     LineKind::CleanerChoreRun,
 ];
 
-/// The column of the first byte that is bad, or none where the bytes are a line.
-fn column(line: &[u8]) -> Option<usize> {
-    match check_line(&KINDS, line) {
-        Ok(()) => None,
-        Err(fault) => fault.0.checked_add(1),
+// The job of a script of one line, as text.
+fn asked(alloc: Global, line: &[u8]) -> Result<String, Fail> {
+    if line.len() > 1000 {
+        return Ok(String::from_str(alloc, "long")?);
     }
-}
-
-#[test]
-fn lines(rt: HostRuntime) {
-    let table: [&[u8]; 26] = [
-        b"create 't','f'",
-        b"create  't' , 'f','g' versions 3 splits 'm','q'  ",
-        b"create 't','f' splits 'm'",
-        b"put 't','r','f:q','v'",
-        b"put 't' , 'r' ,'f:', '' , 12 ",
-        b"put '\\x74','\\x00\\xff','f:a:b','\\x5c'",
-        b"delete 't','r','f:q'",
-        b"delete 't','r','f:q',7,'version'",
-        b"delete 't','r','f:q',0 , 'version' ",
-        b"delete 't','r','f',7",
-        b"scan 't'",
-        b"flush 't'",
-        b"compact 't'",
-        b"major_compact 't'",
-        b"disable 't'",
-        b"enable 't'",
-        b"drop 't'",
-        b"split 't','r'",
-        b"snapshot 't','s'",
-        b"list_snapshots  ",
-        b"delete_snapshot 's'",
-        b"clone_snapshot 's','t'",
-        b"restore_snapshot 's'",
-        b"bulkload 't','a=b'",
-        b"catalogjanitor_run",
-        b"cleaner_chore_run",
-    ];
-    for line in table {
-        assert_eq!(rt; column(line), None, "in {} bytes", line.len());
-    }
-}
-
-#[test]
-fn columns(rt: HostRuntime) {
-    let table: [(&[u8], usize); 30] = [
-        (b"scan t", 6),
-        (b"scna 't'", 3),
-        (b"put 't','r','f:q','v',01", 24),
-        (b"", 1),
-        (b"  ", 1),
-        (b"Scan 't'", 1),
-        (b"scan", 5),
-        (b"scan 't", 8),
-        (b"scan 't' x", 10),
-        (b"scan't'", 5),
-        (b"scan 't'\r", 9),
-        (b"snapshots 't'", 9),
-        (b"delete_snap", 12),
-        (b"list_snapshots x", 16),
-        (b"scan '-t'", 7),
-        (b"scan '\\x2d'", 9),
-        (b"scan '\\x7A'", 10),
-        (b"scan '\\x7", 10),
-        (b"scan '\t'", 7),
-        (b"scan '\x7f'", 7),
-        (b"split 't',''", 12),
-        (b"put 't','r','fq','v'", 16),
-        (b"put 't','r','f:q','v',9223372036854775808", 41),
-        (b"delete 't','r','f','version'", 20),
-        (b"delete 't','r','f:q','version'", 22),
-        (b"delete 't','r','f:q',7,'versions'", 32),
-        (b"create 't'", 11),
-        (b"create 't','f:g'", 14),
-        (b"create 't','f' versions 0", 25),
-        (b"bulkload 't','..'", 17),
-    ];
-    for (line, place) in table {
-        assert_eq!(rt; column(line), Some(place), "in {} bytes", line.len());
-    }
-}
-
-#[test]
-fn a_kind_that_is_not_run(rt: HostRuntime) {
-    let kinds = [LineKind::Scan, LineKind::DeleteSnapshot];
-    let found = match check_line(&kinds, b"delete 't','r','f'") {
-        Ok(()) => None,
-        Err(fault) => Some(fault.0),
+    let jobs = match parse_lines(alloc, &KINDS, line) {
+        Ok(jobs) => jobs,
+        Err(_) => return Ok(String::from_str(alloc, "bad")?),
     };
-    assert_eq!(rt; found, Some(6));
+    match jobs.get(0) {
+        Some(numbered) => Ok(format!(in alloc; "{:?}", numbered.job)?),
+        None => Ok(String::from_str(alloc, "none")?),
+    }
+}
+
+#[test]
+fn jobs(rt: HostRuntime) -> Result<(), Fail> {
+    let table: [(&[u8], &str); 13] = [
+        (
+            b"put 't','\\x00r','f:q:s','v\\x5c',7",
+            "Put { table: TableName { text: Blob { bytes: [116] } }, cell: PutCell { row: Blob { bytes: [0, 114] }, family: FamilyName { text: Blob { bytes: [102] } }, qualifier: Blob { bytes: [113, 58, 115] }, ts: Some(7), kind: Put, value: Blob { bytes: [118, 92] } } }",
+        ),
+        (
+            b"put '\\x74' , 'r' ,'f:', '' ",
+            "Put { table: TableName { text: Blob { bytes: [116] } }, cell: PutCell { row: Blob { bytes: [114] }, family: FamilyName { text: Blob { bytes: [102] } }, qualifier: Blob { bytes: [] }, ts: None, kind: Put, value: Blob { bytes: [] } } }",
+        ),
+        (
+            b"delete 't','r','f:q'",
+            "Put { table: TableName { text: Blob { bytes: [116] } }, cell: PutCell { row: Blob { bytes: [114] }, family: FamilyName { text: Blob { bytes: [102] } }, qualifier: Blob { bytes: [113] }, ts: None, kind: DeleteColumn, value: Blob { bytes: [] } } }",
+        ),
+        (
+            b"delete 't','r','f:1', 10 ,'version'",
+            "Put { table: TableName { text: Blob { bytes: [116] } }, cell: PutCell { row: Blob { bytes: [114] }, family: FamilyName { text: Blob { bytes: [102] } }, qualifier: Blob { bytes: [49] }, ts: Some(10), kind: Delete, value: Blob { bytes: [] } } }",
+        ),
+        (
+            b"delete 't','r','f2',0",
+            "Put { table: TableName { text: Blob { bytes: [116] } }, cell: PutCell { row: Blob { bytes: [114] }, family: FamilyName { text: Blob { bytes: [102, 50] } }, qualifier: Blob { bytes: [] }, ts: Some(0), kind: DeleteFamily, value: Blob { bytes: [] } } }",
+        ),
+        (
+            b"scan 't'",
+            "Scan { table: TableName { text: Blob { bytes: [116] } } }",
+        ),
+        (
+            b"major_compact 't'",
+            "Compact { table: TableName { text: Blob { bytes: [116] } }, major: true }",
+        ),
+        (
+            b"split 't','\\xff'",
+            "Split { table: TableName { text: Blob { bytes: [116] } }, row: Blob { bytes: [255] } }",
+        ),
+        (
+            b"snapshot 't','\\x73'",
+            "Snapshot { table: TableName { text: Blob { bytes: [116] } }, snapshot: SnapName { text: Blob { bytes: [115] } } }",
+        ),
+        (
+            b"clone_snapshot 's','t'",
+            "Clone { snapshot: SnapName { text: Blob { bytes: [115] } }, table: TableName { text: Blob { bytes: [116] } } }",
+        ),
+        (
+            b"bulkload 't','a=b'",
+            "Bulk { table: TableName { text: Blob { bytes: [116] } }, folder: Blob { bytes: [97, 61, 98] } }",
+        ),
+        (b"list_snapshots", "ListSnapshots"),
+        (b"cleaner_chore_run", "Clean"),
+    ];
+    for (line, want) in table {
+        let found = asked(rt.alloc(), line)?;
+        assert_eq!(rt; found.as_str(), want);
+    }
+    Ok(())
+}
+
+// The numbers of a script's lines, or where it is bad.
+fn numbers(alloc: Global, script: &[u8]) -> Result<String, Fail> {
+    if script.len() > 1000 {
+        return Ok(String::from_str(alloc, "long")?);
+    }
+    let jobs = match parse_lines(alloc, &KINDS, script) {
+        Ok(jobs) => jobs,
+        Err(ScriptError::BadLine { line, column }) => {
+            return Ok(format!(in alloc; "bad {line} {column}")?);
+        }
+        Err(ScriptError::NoMemory) => return Ok(String::from_str(alloc, "no memory")?),
+    };
+    let mut text = String::new(alloc);
+    for numbered in jobs.as_slice() {
+        let number = format!(in alloc; "{} ", numbered.line)?;
+        text.push_str(number.as_str())?;
+    }
+    Ok(text)
+}
+
+#[test]
+fn scripts(rt: HostRuntime) -> Result<(), Fail> {
+    let table: [(&[u8], &str); 13] = [
+        (b"", ""),
+        (b"\n\r\n", ""),
+        (b"#x", ""),
+        (b"scan 't'\nscan 't'\r\nscan 't'", "1 2 3 "),
+        (b"# scan 't'\n\n\r\nscan 't'\n", "4 "),
+        (b"scan 't'\n\nscan t\nscna", "bad 3 6"),
+        (b"scan 't'\r", "bad 1 9"),
+        (b"scan\r't'\n", "bad 1 5"),
+        (b"scan 't'\r\r\n", "bad 1 9"),
+        (b" # x\n", "bad 1 1"),
+        (b"#\n  \n", "bad 2 1"),
+        (b"put 't','r','f:q','v',01", "bad 1 24"),
+        (b"create 't','f'", "bad 1 2"),
+    ];
+    for (script, want) in table {
+        let found = numbers(rt.alloc(), script)?;
+        assert_eq!(rt; found.as_str(), want, "a script of {} bytes", script.len());
+    }
+    Ok(())
 }

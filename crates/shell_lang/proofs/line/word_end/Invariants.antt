@@ -1,7 +1,0 @@
-use Rattle.std.proofs.Common.{take}
-use Rattle.shell_lang.specs.Line.{IsBegun}
-use Rattle.shell_lang.proofs.line.word_end.Given as goal
-
--- the bytes so far are the front of a word
-abbrev pub invariant-loop-i : goal.invariant-loop-i
-invariant-loop-i l = IsBegun l.kinds (take l.i l.bytes)

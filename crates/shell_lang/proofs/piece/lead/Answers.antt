@@ -1,5 +1,0 @@
-use Rattle.shell_lang.proofs.PieceLemmas.{Avoids-BlanksFrom}
-use Rattle.shell_lang.proofs.piece.lead.Goals as goal
-
-pub new-requires : goal.new-requires
-new-requires c = Avoids-BlanksFrom c.args.some c.args.mark c.requires

@@ -1,5 +1,0 @@
-use Rattle.hb_grammar.proofs.TestLemmas.{decided}
-use Rattle.shell_lang.proofs.repeated.RepeatedGrammar.is_whole.Goals as goal
-
-pub returns : goal.returns
-returns g c = decided c.may_end.result c.may_end.ensures.yes c.may_end.ensures.no

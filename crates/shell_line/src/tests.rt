@@ -1,0 +1,173 @@
+//! Lines of each kind, and the places where others leave the grammar.
+use crate::{LineKind, check_line};
+use std::alloc::Global;
+use std::test::Fail;
+
+const KINDS: [LineKind; 19] = [
+    LineKind::Create,
+    LineKind::Put,
+    LineKind::Delete,
+    LineKind::Scan,
+    LineKind::Flush,
+    LineKind::Compact,
+    LineKind::MajorCompact,
+    LineKind::Disable,
+    LineKind::Enable,
+    LineKind::Drop,
+    LineKind::Split,
+    LineKind::Snapshot,
+    LineKind::ListSnapshots,
+    LineKind::DeleteSnapshot,
+    LineKind::CloneSnapshot,
+    LineKind::RestoreSnapshot,
+    LineKind::Bulkload,
+    LineKind::CatalogjanitorRun,
+    LineKind::CleanerChoreRun,
+];
+
+/// The column of the first byte that is bad, or none where the bytes are a line.
+fn column(line: &[u8]) -> Option<usize> {
+    match check_line(&KINDS, line) {
+        Ok(_) => None,
+        Err(fault) => fault.0.checked_add(1),
+    }
+}
+
+#[test]
+fn lines(rt: HostRuntime) {
+    let table: [&[u8]; 26] = [
+        b"create 't','f'",
+        b"create  't' , 'f','g' versions 3 splits 'm','q'  ",
+        b"create 't','f' splits 'm'",
+        b"put 't','r','f:q','v'",
+        b"put 't' , 'r' ,'f:', '' , 12 ",
+        b"put '\\x74','\\x00\\xff','f:a:b','\\x5c'",
+        b"delete 't','r','f:q'",
+        b"delete 't','r','f:q',7,'version'",
+        b"delete 't','r','f:q',0 , 'version' ",
+        b"delete 't','r','f',7",
+        b"scan 't'",
+        b"flush 't'",
+        b"compact 't'",
+        b"major_compact 't'",
+        b"disable 't'",
+        b"enable 't'",
+        b"drop 't'",
+        b"split 't','r'",
+        b"snapshot 't','s'",
+        b"list_snapshots  ",
+        b"delete_snapshot 's'",
+        b"clone_snapshot 's','t'",
+        b"restore_snapshot 's'",
+        b"bulkload 't','a=b'",
+        b"catalogjanitor_run",
+        b"cleaner_chore_run",
+    ];
+    for line in table {
+        assert_eq!(rt; column(line), None, "in {} bytes", line.len());
+    }
+}
+
+#[test]
+fn columns(rt: HostRuntime) {
+    let table: [(&[u8], usize); 30] = [
+        (b"scan t", 6),
+        (b"scna 't'", 3),
+        (b"put 't','r','f:q','v',01", 24),
+        (b"", 1),
+        (b"  ", 1),
+        (b"Scan 't'", 1),
+        (b"scan", 5),
+        (b"scan 't", 8),
+        (b"scan 't' x", 10),
+        (b"scan't'", 5),
+        (b"scan 't'\r", 9),
+        (b"snapshots 't'", 9),
+        (b"delete_snap", 12),
+        (b"list_snapshots x", 16),
+        (b"scan '-t'", 7),
+        (b"scan '\\x2d'", 9),
+        (b"scan '\\x7A'", 10),
+        (b"scan '\\x7", 10),
+        (b"scan '\t'", 7),
+        (b"scan '\x7f'", 7),
+        (b"split 't',''", 12),
+        (b"put 't','r','fq','v'", 16),
+        (b"put 't','r','f:q','v',9223372036854775808", 41),
+        (b"delete 't','r','f','version'", 20),
+        (b"delete 't','r','f:q','version'", 22),
+        (b"delete 't','r','f:q',7,'versions'", 32),
+        (b"create 't'", 11),
+        (b"create 't','f:g'", 14),
+        (b"create 't','f' versions 0", 25),
+        (b"bulkload 't','..'", 17),
+    ];
+    for (line, place) in table {
+        assert_eq!(rt; column(line), Some(place), "in {} bytes", line.len());
+    }
+}
+
+#[test]
+fn a_kind_that_is_not_run(rt: HostRuntime) {
+    let kinds = [LineKind::Scan, LineKind::DeleteSnapshot];
+    let found = match check_line(&kinds, b"delete 't','r','f'") {
+        Ok(_) => None,
+        Err(fault) => Some(fault.0),
+    };
+    assert_eq!(rt; found, Some(6));
+}
+
+// A line of each kind, and the lengths of those of its cuts that are lines too.
+const CUTS: [(&[u8], [usize; 4]); 20] = [
+    (b"create 't','f' versions 3 splits 'm'", [14, 15, 25, 26]),
+    (b"put 't','r','f:q','v',12", [21, 23, 21, 21]),
+    (b"delete 't','r','f:q',7,'version'", [20, 22, 20, 20]),
+    (b"delete 't','r','f',7", [18, 18, 18, 18]),
+    (b"scan 't'", [8, 8, 8, 8]),
+    (b"flush 't'", [9, 9, 9, 9]),
+    (b"compact 't'", [11, 11, 11, 11]),
+    (b"major_compact 't'", [17, 17, 17, 17]),
+    (b"disable 't'", [11, 11, 11, 11]),
+    (b"enable 't'", [10, 10, 10, 10]),
+    (b"drop 't'", [8, 8, 8, 8]),
+    (b"split 't','\\x0a'", [16, 16, 16, 16]),
+    (b"snapshot 't','s'", [16, 16, 16, 16]),
+    (b"list_snapshots ", [14, 14, 14, 14]),
+    (b"delete_snapshot 's'", [19, 19, 19, 19]),
+    (b"clone_snapshot 's','t'", [22, 22, 22, 22]),
+    (b"restore_snapshot 's'", [20, 20, 20, 20]),
+    (b"bulkload 't','a=b'", [18, 18, 18, 18]),
+    (b"catalogjanitor_run", [18, 18, 18, 18]),
+    (b"cleaner_chore_run", [17, 17, 17, 17]),
+];
+
+// The column of a line with the byte at an index changed to a control byte.
+fn column_of_changed(alloc: Global, line: &[u8], at: usize) -> Result<Option<usize>, Fail> {
+    let mut bytes = Vec::new(alloc);
+    for (i, byte) in line.iter().enumerate() {
+        bytes.push(if i == at { 1 } else { *byte })?;
+    }
+    Ok(column(bytes.as_slice()))
+}
+
+#[test]
+fn each_cut(rt: HostRuntime) {
+    for (line, lines) in CUTS {
+        for at in 0..line.len() {
+            let is_line = lines.iter().any(|length| *length == at);
+            let want = if is_line { None } else { at.checked_add(1) };
+            assert_eq!(rt; column(&line[..at]), want, "{at} bytes of {}", line.len());
+        }
+    }
+}
+
+#[test]
+fn each_byte_changed(rt: HostRuntime) -> Result<(), Fail> {
+    for (line, _) in CUTS {
+        for at in 0..line.len() {
+            let found = column_of_changed(rt.alloc(), line, at)?;
+            assert_eq!(rt; found, at.checked_add(1), "{at} of {} bytes", line.len());
+        }
+    }
+    Ok(())
+}

@@ -1,0 +1,3 @@
+pub mod BlanksLemmas
+pub mod TextLemmas
+pub mod RepeatedLemmas

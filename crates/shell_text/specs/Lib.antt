@@ -1,0 +1,6 @@
+pub mod Blanks
+pub mod Argument
+pub mod Text
+pub mod TextLaws
+pub mod Repeated
+pub mod RepeatedLaws

@@ -1,0 +1,3 @@
+pub mod Cut
+pub mod Quotes
+pub mod Column
