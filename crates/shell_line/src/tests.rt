@@ -1,7 +1,5 @@
 //! Lines of each kind, and the places where others leave the grammar.
 use crate::{LineKind, check_line};
-use std::alloc::Global;
-use std::test::Fail;
 
 const KINDS: [LineKind; 19] = [
     LineKind::Create,
@@ -115,59 +113,4 @@ fn a_kind_that_is_not_run(rt: HostRuntime) {
         Err(fault) => Some(fault.0),
     };
     assert_eq!(rt; found, Some(6));
-}
-
-// A line of each kind, and the lengths of those of its cuts that are lines too.
-const CUTS: [(&[u8], [usize; 4]); 20] = [
-    (b"create 't','f' versions 3 splits 'm'", [14, 15, 25, 26]),
-    (b"put 't','r','f:q','v',12", [21, 23, 21, 21]),
-    (b"delete 't','r','f:q',7,'version'", [20, 22, 20, 20]),
-    (b"delete 't','r','f',7", [18, 18, 18, 18]),
-    (b"scan 't'", [8, 8, 8, 8]),
-    (b"flush 't'", [9, 9, 9, 9]),
-    (b"compact 't'", [11, 11, 11, 11]),
-    (b"major_compact 't'", [17, 17, 17, 17]),
-    (b"disable 't'", [11, 11, 11, 11]),
-    (b"enable 't'", [10, 10, 10, 10]),
-    (b"drop 't'", [8, 8, 8, 8]),
-    (b"split 't','\\x0a'", [16, 16, 16, 16]),
-    (b"snapshot 't','s'", [16, 16, 16, 16]),
-    (b"list_snapshots ", [14, 14, 14, 14]),
-    (b"delete_snapshot 's'", [19, 19, 19, 19]),
-    (b"clone_snapshot 's','t'", [22, 22, 22, 22]),
-    (b"restore_snapshot 's'", [20, 20, 20, 20]),
-    (b"bulkload 't','a=b'", [18, 18, 18, 18]),
-    (b"catalogjanitor_run", [18, 18, 18, 18]),
-    (b"cleaner_chore_run", [17, 17, 17, 17]),
-];
-
-// The column of a line with the byte at an index changed to a control byte.
-fn column_of_changed(alloc: Global, line: &[u8], at: usize) -> Result<Option<usize>, Fail> {
-    let mut bytes = Vec::new(alloc);
-    for (i, byte) in line.iter().enumerate() {
-        bytes.push(if i == at { 1 } else { *byte })?;
-    }
-    Ok(column(bytes.as_slice()))
-}
-
-#[test]
-fn each_cut(rt: HostRuntime) {
-    for (line, lines) in CUTS {
-        for at in 0..line.len() {
-            let is_line = lines.iter().any(|length| *length == at);
-            let want = if is_line { None } else { at.checked_add(1) };
-            assert_eq!(rt; column(&line[..at]), want, "{at} bytes of {}", line.len());
-        }
-    }
-}
-
-#[test]
-fn each_byte_changed(rt: HostRuntime) -> Result<(), Fail> {
-    for (line, _) in CUTS {
-        for at in 0..line.len() {
-            let found = column_of_changed(rt.alloc(), line, at)?;
-            assert_eq!(rt; found, at.checked_add(1), "{at} of {} bytes", line.len());
-        }
-    }
-    Ok(())
 }
