@@ -61,8 +61,8 @@ Free-Joined first second mark f g bytes pair =
     subst (Lacks mark) (sym pair.whole) (Lacks-append mark pair.front pair.back (f pair.front pair.in_first) (g pair.back pair.in_second))
 
 -- and as a choice
-pub Free-EitherOf : (left right : List ℕ → Type 0) (mark : ℕ) → Free left mark → Free right mark → Free (EitherOf left right) mark
-Free-EitherOf left right mark f g bytes either = elim either as (λ _. Lacks mark bytes) [ inl a ↦ f bytes a | inr b ↦ g bytes b ]
+pub Free-EitherOf : (first second : List ℕ → Type 0) (mark : ℕ) → Free first mark → Free second mark → Free (EitherOf first second) mark
+Free-EitherOf first second mark f g bytes either = elim either as (λ _. Lacks mark bytes) [ inl a ↦ f bytes a | inr b ↦ g bytes b ]
 
 -- a text is free of what it lacks
 pub Free-text : (text : List ℕ) (mark : ℕ) → Lacks mark text → Free (λ bytes. bytes ≡ text) mark

@@ -2,11 +2,11 @@ use Rattle.std.proofs.Common.{◌≡◌, ℕ, List, inl, inr, Option, Some, None
 use Rattle.hb_grammar.specs.Grammar.{IsLive}
 use Rattle.hb_grammar.specs.Either.{IfLeft, EitherOf}
 
--- of two grammars of which one is left there is a string
-pub IsLive-EitherOf : {A B : Type 0} (spells_left : A → List ℕ → Type 0) (spells_right : B → List ℕ → Type 0) →
-    ((a : A) → IsLive (spells_left a)) → ((b : B) → IsLive (spells_right b)) →
-    (left : Option A) (right : Option B) → (left ≡ None → right ≡ None → ⊥) →
-    IsLive (EitherOf (IfLeft spells_left left) (IfLeft spells_right right))
-IsLive-EitherOf spells_left spells_right lives_left lives_right (Some a) right some = ((lives_left a).0, inl (lives_left a).1)
-IsLive-EitherOf spells_left spells_right lives_left lives_right None (Some b) some = ((lives_right b).0, inr (lives_right b).1)
-IsLive-EitherOf spells_left spells_right lives_left lives_right None None some = absurd (some refl refl)
+-- of two grammars, one of which is there still, there is a string
+pub IsLive-EitherOf : {A B : Type 0} (spells_first : A → List ℕ → Type 0) (spells_second : B → List ℕ → Type 0) →
+    ((a : A) → IsLive (spells_first a)) → ((b : B) → IsLive (spells_second b)) →
+    (first : Option A) (second : Option B) → (first ≡ None → second ≡ None → ⊥) →
+    IsLive (EitherOf (IfLeft spells_first first) (IfLeft spells_second second))
+IsLive-EitherOf spells_first spells_second lives_first lives_second (Some a) second some = ((lives_first a).0, inl (lives_first a).1)
+IsLive-EitherOf spells_first spells_second lives_first lives_second None (Some b) some = ((lives_second b).0, inr (lives_second b).1)
+IsLive-EitherOf spells_first spells_second lives_first lives_second None None some = absurd (some refl refl)

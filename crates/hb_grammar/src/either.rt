@@ -10,9 +10,9 @@ use std::alloc::AllocError;
 /// A string of one grammar, or of another. Both are followed as long as they go on, so that the place
 /// of a fault is the greater of both.
 pub struct Either<A, B> {
-    left: Option<A>,
-    right: Option<B>,
-    ghost some: { left ≡ None → right ≡ None → ⊥ },
+    first: Option<A>,
+    second: Option<B>,
+    ghost some: { first ≡ None → second ≡ None → ⊥ },
 }
 
 impl<A: Copy, B: Copy> Clone for Either<A, B> {
@@ -28,14 +28,14 @@ impl<A: Copy, B: Copy> Clone for Either<A, B> {
 impl<A: Copy, B: Copy> Copy for Either<A, B> {}
 
 impl<A: Grammar, B: Grammar> Either<A, B> {
-    /// A string of `left`, or of `right`.
+    /// A string of `first`, or of `second`.
     #[tactic(auto, using(crate::proofs::SameLemmas::Same_refl))]
-    pub fn new(left: A, right: B) -> Either<A, B>
-        ensures { Same (⟦<Either<A, B> as Grammar>⟧.spells result) (EitherOf (A.spells left) (B.spells right)) }
+    pub fn new(first: A, second: B) -> Either<A, B>
+        ensures { Same (⟦<Either<A, B> as Grammar>⟧.spells result) (EitherOf (A.spells first) (B.spells second)) }
     {
         Either {
-            left: Some(left),
-            right: Some(right),
+            first: Some(first),
+            second: Some(second),
         }
     }
 }
@@ -63,22 +63,22 @@ fn is_whole_left<A: Grammar>(grammar: Option<A>) -> bool
 impl<A: Grammar, B: Grammar> Grammar for Either<A, B> {
     ghost use Rattle.hb_grammar.specs.EitherLaws.{IsLive-EitherOf};
 
-    ghost spells = { λ either. EitherOf (IfLeft A.spells either.left) (IfLeft B.spells either.right) };
+    ghost spells = { λ either. EitherOf (IfLeft A.spells either.first) (IfLeft B.spells either.second) };
 
-    ghost completes = { λ either. IsLive-EitherOf A.spells B.spells A.completes B.completes either.left either.right either.some };
+    ghost completes = { λ either. IsLive-EitherOf A.spells B.spells A.completes B.completes either.first either.second either.some };
 
     fn step(self, byte: u8) -> Option<Self> {
-        let left = step_left(self.left, byte);
-        let right = step_left(self.right, byte);
-        match left {
-            Some(left) => Some(Either {
-                left: Some(left),
-                right,
+        let first = step_left(self.first, byte);
+        let second = step_left(self.second, byte);
+        match first {
+            Some(first) => Some(Either {
+                first: Some(first),
+                second,
             }),
-            None => match right {
-                Some(right) => Some(Either {
-                    left: None,
-                    right: Some(right),
+            None => match second {
+                Some(second) => Some(Either {
+                    first: None,
+                    second: Some(second),
                 }),
                 None => None,
             },
@@ -86,6 +86,6 @@ impl<A: Grammar, B: Grammar> Grammar for Either<A, B> {
     }
 
     fn is_whole(self) -> bool {
-        is_whole_left(self.left) || is_whole_left(self.right)
+        is_whole_left(self.first) || is_whole_left(self.second)
     }
 }
