@@ -1,5 +1,5 @@
 -- When a written list may become a region's newest, by what it is committed for.
-use Rattle.std.specs.Prelude.{◌≡◌, ◌≢◌, ℕ, ◌+◌, ◌<◌, Bool, true, false, cond, not, List, [], ◌∷◌, ◌++◌, map, Option, Some, None}
+use Rattle.std.specs.Prelude.{◌≡◌, ◌≢◌, ℕ, ◌+◌, ◌<◌, Bool, true, false, cond, not, List, [], ◌∷◌, ◌++◌, map, Option, Some, None, unwrap_or}
 use Rattle.std.specs.List.{filter, AllZip, AllByRecursion, list_any, fold}
 use Rattle.std.specs.FinMap.{get}
 use Rattle.hb_cell.specs.declared.cell.Cell.{Cell}
@@ -28,7 +28,7 @@ use Rattle.core_model.specs.declared.targets.Why.TheVariants as why
 use Rattle.cell_sight.specs.Member.{Member}
 use Rattle.core_model.specs.Keys.{home}
 use Rattle.core_model.specs.Disk.{live_of}
-use Rattle.core_model.specs.Entries.{base_of, is_own, is_in, file_of, cells_in, region_list, seq_of, IsKey, IsEntryIn}
+use Rattle.core_model.specs.Entries.{Made, base_of, is_own, is_in, file_of, cells_in, region_list, seq_of, IsKey, IsEntryIn}
 use Rattle.core_model.specs.Actors.{HasHold, HasJob, InSet, IsRegion, MayFlush, last_pin}
 use Rattle.core_model.specs.BulkParts.{parts_of, IsPartFile}
 use Rattle.core_model.specs.FileGuards.{Wrote}
@@ -169,6 +169,10 @@ pub record Compacts (a : ℕ) (r : RegionKey) (major : Bool) (l : RegionFiles) (
 
 -- ---- a bulk load
 
+-- the cells of a base are of its family
+abbrev pub FitsFamily : Made → Base → Type 0
+FitsFamily made b = (c : Cell) → Member c (unwrap_or (made b) []) → c.family ≡ b.family
+
 pub record Loads (a : ℕ) (r : RegionKey) (l : RegionFiles) (cells : List Cell) (planned : List (List ℕ × Entry)) (s : Parts) : Type 0 where
   pub folder : List ℕ
   pub job : HasJob s.plain.live a (jobs.Bulk r.table folder)
@@ -180,6 +184,8 @@ pub record Loads (a : ℕ) (r : RegionKey) (l : RegionFiles) (cells : List Cell)
   -- one file for each part of the region's group, placed and not listed yet
   pub files : AllZip (λ f b. IsPartFile a folder info f b s × (s.waiting b ≡ Some a)) (parts_of s.staged folder info (s.loads a)) added
   pub some : added ≢ []
+  -- a load is refused where a file has cells of another family
+  pub fits : AllByRecursion (FitsFamily s.made) added
   pub entries : l.entries ≡ (s.lists r).entries ++ map Own added
   pub joins : cells ≡ cells_in s.made (map Own added)
   pub seq : l.seq ≡ greatest (s.plain.kept r) (cells_in s.made (map Own added))

@@ -120,38 +120,48 @@ none_of (x ∷ xs) i split n = (elim (same_bytes x (encoded i)) as (λ b. same_b
   | false ↦ λ d. none_of xs i split (λ y m. n y (inr m))
 ]) refl
 
-not_removed : (s : Parts) (a w : ℕ) (t : List ℕ) (r : RegionKey) (i : RegionInfo) → IsSound s → (a ≡ w → ⊥) → HasHold s.plain.live w (holds.Region r) → key_of i ≡ r → same_bytes r.table t ≡ true
+not_removed : (s : Parts) (a : ℕ) (t : List ℕ) (r : RegionKey) (i : RegionInfo) → (HasHold s.plain.live a (holds.Region r) → ⊥) → key_of i ≡ r → same_bytes r.table t ≡ true
     → (split : Bool) → is_one_of (held_regions t (holds_in (live_of s.plain.live a))) (i, split) ≡ false
-not_removed s a w t r i h n y k d split = none_of _ i split (λ name m e.
+not_removed s a t r i y k d split = none_of _ i split (λ name m e.
     let x = actor-hold s.plain.live a (live_of s.plain.live a) (holds.Region (key_at t name)) refl (held-hold t name _ m) in
-    region_excludes s a w r h n (subst (λ (q : RegionKey). HasHold s.plain.live a (holds.Region q)) (same_place name e) x) y)
+    y (subst (λ (q : RegionKey). HasHold s.plain.live a (holds.Region q)) (same_place name e) x))
   where
     same_place : (name : List ℕ) → name ≡ encoded i → key_at t name ≡ r
     same_place name e = λ j. record { table = sym (same_bytes-true r.table t d) j; region = (e ∙ ap (λ (q : RegionKey). q.region) k) j }
 
 -- ---- all changes
 
-stays_here : (job : Option Job) (change : Event) (table : List ℕ) (a w : ℕ) (s : Parts) (r : RegionKey) → job_of s.plain.live a ≡ job → IsChange job change table a s → IsSound s → (a ≡ w → ⊥) → HasHold s.plain.live w (holds.Region r)
+-- the actor of the change holds neither the table nor the region
+abbrev HasNone : Parts → ℕ → RegionKey → Type 0
+HasNone s a r = ((t : List ℕ) → HasHold s.plain.live a (holds.Table t) → same_bytes r.table t ≡ true → ⊥) × (HasHold s.plain.live a (holds.Region r) → ⊥)
+
+stays_here : (job : Option Job) (change : Event) (table : List ℕ) (a : ℕ) (s : Parts) (r : RegionKey) → job_of s.plain.live a ≡ job → IsChange job change table a s → IsSound s → HasNone s a r
     → same_bytes r.table table ≡ true → IsRegion s.plain.tables r → IsRegion (tables_on change s.plain.snapshots s.plain.tables) r
-stays_here (Some (jobs.Create t fs n ks)) (event.Create schema regions) table a w s r j z h v y d i = table_excludes s a w table r h v (own_hold s a _ table h j (λ hs k. subst (λ x. Member (holds.Table x) hs) z.0 k)) y d
-stays_here (Some (jobs.Enable t)) (event.Enable u) table a w s r j z h v y d i = table_excludes s a w table r h v (own_hold s a _ table h j (λ hs k. subst (λ x. Member (holds.Table x) hs) z.0 k)) y d
-stays_here (Some (jobs.Disable t)) (event.Disable u) table a w s r j z h v y d i = table_excludes s a w table r h v (own_hold s a _ table h j (λ hs k. subst (λ x. Member (holds.Table x) hs) z.0 k)) y d
-stays_here (Some (jobs.Drop t)) (event.Drop u) table a w s r j z h v y d i = table_excludes s a w table r h v (own_hold s a _ table h j (λ hs k. subst (λ x. Member (holds.Table x) hs) z.0 k)) y d
-stays_here (Some (jobs.Clone name t)) (event.Clone c u regions) table a w s r j z h v y d i = table_excludes s a w table r h v (own_hold s a _ table h j (λ hs k. subst (λ x. Member (holds.Table x) hs) z.0 k)) y d
-stays_here (Some (jobs.Restore name)) (event.Restore c regions) table a w s r j z h v y d i = table_excludes s a w table r h v z.2 y d
-stays_here (Some (jobs.Split t row)) (event.Split u parent low high) table a w s r j z h v y d i =
+stays_here (Some (jobs.Create t fs n ks)) (event.Create schema regions) table a s r j z h y d i = absurd (y.0 table (own_hold s a _ table h j (λ hs k. subst (λ x. Member (holds.Table x) hs) z.0 k)) d)
+stays_here (Some (jobs.Enable t)) (event.Enable u) table a s r j z h y d i = absurd (y.0 table (own_hold s a _ table h j (λ hs k. subst (λ x. Member (holds.Table x) hs) z.0 k)) d)
+stays_here (Some (jobs.Disable t)) (event.Disable u) table a s r j z h y d i = absurd (y.0 table (own_hold s a _ table h j (λ hs k. subst (λ x. Member (holds.Table x) hs) z.0 k)) d)
+stays_here (Some (jobs.Drop t)) (event.Drop u) table a s r j z h y d i = absurd (y.0 table (own_hold s a _ table h j (λ hs k. subst (λ x. Member (holds.Table x) hs) z.0 k)) d)
+stays_here (Some (jobs.Clone name t)) (event.Clone c u regions) table a s r j z h y d i = absurd (y.0 table (own_hold s a _ table h j (λ hs k. subst (λ x. Member (holds.Table x) hs) z.0 k)) d)
+stays_here (Some (jobs.Restore name)) (event.Restore c regions) table a s r j z h y d i = absurd (y.0 table z.2 d)
+stays_here (Some (jobs.Split t row)) (event.Split u parent low high) table a s r j z h y d i =
     changed_stays u _ s.plain.tables r (subst (λ x. same_bytes r.table x ≡ true) (sym z.1) d)
     (λ x k e m. stands_put low k _ (stands_put high k _ (stands_split (parent ∷ []) k x.regions m))) i
-stays_here (Some jobs.Janitor) (event.Remove t regions) table a w s r j z h v y d i =
+stays_here (Some jobs.Janitor) (event.Remove t regions) table a s r j z h y d i =
     let q : same_bytes r.table t ≡ true = subst (λ x. same_bytes r.table x ≡ true) (sym z.0) d in
     changed_stays t _ s.plain.tables r q
-    (λ x k e m. stands_without regions k x.regions (λ split. ap (λ names. is_one_of names (k, split)) z.1 ∙ not_removed s a w table r k h v y e d split) m) i
-stays_here _ _ table a w s r j z h v y d i = absurd z
+    (λ x k e m. stands_without regions k x.regions (λ split. ap (λ names. is_one_of names (k, split)) z.1 ∙ not_removed s a table r k y.1 e d split) m) i
+stays_here _ _ table a s r j z h y d i = absurd z
 
--- the region is in the set after another's change
-pub region_stays : (change : Event) (table : List ℕ) (a w : ℕ) (s : Parts) (r : RegionKey) → IsChange (job_of s.plain.live a) change table a s → IsSound s → (a ≡ w → ⊥) → HasHold s.plain.live w (holds.Region r)
+-- a region is in the set after the change of an actor that holds neither it nor its table
+pub free_stays : (change : Event) (table : List ℕ) (a : ℕ) (s : Parts) (r : RegionKey) → IsChange (job_of s.plain.live a) change table a s → IsSound s
+    → ((t : List ℕ) → HasHold s.plain.live a (holds.Table t) → same_bytes r.table t ≡ true → ⊥) → (HasHold s.plain.live a (holds.Region r) → ⊥)
     → IsRegion s.plain.tables r → IsRegion (tables_on change s.plain.snapshots s.plain.tables) r
-region_stays change table a w s r z h n y i = (elim (same_bytes r.table table) as (λ b. same_bytes r.table table ≡ b → IsRegion (tables_on change s.plain.snapshots s.plain.tables) r) [
-  | true ↦ λ d. stays_here (job_of s.plain.live a) change table a w s r refl z h n y d i
+free_stays change table a s r z h x y i = (elim (same_bytes r.table table) as (λ b. same_bytes r.table table ≡ b → IsRegion (tables_on change s.plain.snapshots s.plain.tables) r) [
+  | true ↦ λ d. stays_here (job_of s.plain.live a) change table a s r refl z h (x, y) d i
   | false ↦ λ d. region_moved s.plain.tables _ r (sym (other_table (job_of s.plain.live a) change table a s r.table z d)) i
 ]) refl
+
+-- so it is after another's change
+pub region_stays : (change : Event) (table : List ℕ) (a w : ℕ) (s : Parts) (r : RegionKey) → IsChange (job_of s.plain.live a) change table a s → IsSound s → (a ≡ w → ⊥) → HasHold s.plain.live w (holds.Region r)
+    → IsRegion s.plain.tables r → IsRegion (tables_on change s.plain.snapshots s.plain.tables) r
+region_stays change table a w s r z h n y i = free_stays change table a s r z h (λ t x d. table_excludes s a w t r h n x y d) (λ x. region_excludes s a w r h n x y) i

@@ -1,0 +1,4 @@
+pub mod ContentFacts
+pub mod PlanFacts
+pub mod Faithful
+pub mod Laws
