@@ -1,5 +1,5 @@
 -- A store without files begins faithful.
-use Rattle.std.proofs.Common.{◌≡◌, ℕ, List, [], Some, None, refl, sym, ap, ◌∙◌, subst, inl, inr}
+use Rattle.std.proofs.Common.{◌≡◌, ℕ, List, Some, None, refl, sym, ◌∙◌, subst, inl, inr}
 use Rattle.std.specs.FinMap.{empty, get, get-empty}
 use Rattle.hb_cell.specs.Order.{bytes_cmp}
 use Rattle.plain_model.specs.declared.region_key.RegionKey.{RegionKey}
@@ -19,9 +19,11 @@ no_region r (inr i) = no_key r.table i.table i.stands
 pub bare_faithful : (epoch ttl : ℕ) → IsFaithful (opened (bare_opening epoch ttl))
 bare_faithful epoch ttl = record {
   contents = record { at = λ r i. no_region r i };
+  kept = record { at = λ r i. no_region r i };
   copied = record { at = λ a r. tt };
   copies = record { at = λ name. subst (λ o. Copies (opened (bare_opening epoch ttl)).made o (get (empty {R = bytes_cmp}) name)) (sym (get-empty bytes_cmp name)) (subst (λ o. Copies (opened (bare_opening epoch ttl)).made None o) (sym (get-empty bytes_cmp name)) tt) };
   exact = record { at = λ a n. absurd (n refl) };
+  numbers = record { at = λ a i m. absurd m };
   fronts = record { at = λ a r pin e. absurd (cc) };
   families = record {
     listed = λ r e i m. no_region r i;

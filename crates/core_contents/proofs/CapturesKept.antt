@@ -37,7 +37,7 @@ use Rattle.core_model.specs.State.{Parts}
 use Rattle.core_model.specs.TableFacts.{HasOwnRegions}
 use Rattle.cell_sight.proofs.Counts.{same-trans, same-equal}
 use Rattle.core_sound.proofs.Tests.{both_right, same_bytes-self, same_bytes-true, same_key-true}
-use Rattle.core_contents.specs.ContentFacts.{CapturesAgree, IsCaptureOf, HasCapture}
+use Rattle.core_contents.specs.ContentFacts.{CapturesAgree, IsCaptureOf}
 use Rattle.core_contents.specs.Faithful.{IsFaithful}
 use Rattle.core_contents.proofs.Flushed.{flush_contents}
 use Rattle.core_contents.proofs.MadeStays.{cells_stay}
@@ -47,7 +47,7 @@ use Rattle.core_contents.proofs.Tools.{set_here}
 
 same_capture : (made more : Made) (r : RegionKey) (o : Option RegionFiles) (q : Option RegionCopy) → ((l : RegionFiles) → o ≡ Some l → cells_in more l.entries ≡ cells_in made l.entries) → IsCaptureOf made r o q → IsCaptureOf more r o q
 same_capture made more r None None k c = tt
-same_capture made more r (Some l) (Some y) k c = record { region = c.region; same = same-trans (same-equal (k l refl)) c.same }
+same_capture made more r (Some l) (Some y) k c = record { region = c.region; same = same-trans (same-equal (k l refl)) c.same; number = c.number }
 same_capture made more r None (Some y) k c = absurd c
 same_capture made more r (Some l) None k c = absurd c
 
@@ -83,11 +83,11 @@ region_there tables r split own g =
 
 -- a new capture beside that of the plain machine
 new_capture : (made : Made) (a : ℕ) (r : RegionKey) (l : RegionFiles) (cells : List Cell) (number : ℕ) (o : Option RegionInfo) (captures : ℕ → RegionKey → Option RegionFiles) (copies : ℕ → RegionKey → Option RegionCopy)
-    → (i : RegionInfo) → o ≡ Some i → key_of i ≡ r → Same (cells_in made l.entries) cells → CapturesAgree made captures copies
+    → (i : RegionInfo) → o ≡ Some i → key_of i ≡ r → Same (cells_in made l.entries) cells → l.seq ≡ number → CapturesAgree made captures copies
     → CapturesAgree made (λ w q. cond ((w == a) && same_key q r) (Some l) (captures w q)) (λ w q. cond ((w == a) && same_key q r) (copy_of cells number o) (copies w q))
-new_capture made a r l cells number o captures copies i e k c h = record {
+new_capture made a r l cells number o captures copies i e k c n h = record {
   at = λ w q. (elim ((w == a) && same_key q r) as (λ b. ((w == a) && same_key q r) ≡ b → IsCaptureOf made q (cond b (Some l) (captures w q)) (cond b (copy_of cells number o) (copies w q))) [
-    | true ↦ λ d. subst (λ x. IsCaptureOf made q (Some l) (copy_of cells number x)) (sym e) (record { region = k ∙ sym (same_key-true q r (both_right (w == a) _ d)); same = c })
+    | true ↦ λ d. subst (λ x. IsCaptureOf made q (Some l) (copy_of cells number x)) (sym e) (record { region = k ∙ sym (same_key-true q r (both_right (w == a) _ d)); same = c; number = n })
     | false ↦ λ d. h.at w q
   ]) refl;
 }
@@ -124,12 +124,12 @@ change_captures job _ table a s z = refl
 
 pub captures_kept : (p : Step) (s : Parts) → s.files ≤ 4_194_304 → Allows p s → IsSound s → IsFaithful s → CapturesAgree (made_by p s.made) (captures_by p s.lists s.captures) (after_all s.plain (events_of p)).captures
 captures_kept (step.Capture actor region) s few a h f = let w = region_there s.plain.tables region false h.own_regions a.is_open in
-    new_capture s.made actor.0 region (s.lists region) (s.plain.stable region) (s.plain.kept region) (region_at s.plain.tables region) s.captures s.plain.captures w.0 w.1 w.2 (f.contents.at region (inl a.is_open)) f.copied
+    new_capture s.made actor.0 region (s.lists region) (s.plain.stable region) (s.plain.kept region) (region_at s.plain.tables region) s.captures s.plain.captures w.0 w.1 w.2 (f.contents.at region (inl a.is_open)) (f.kept.at region (inl a.is_open)) f.copied
 captures_kept (step.CommitList actor region number name why.Capture list cells planned) s few a h f =
     let w = region_there s.plain.tables region false h.own_regions a.allowed.is_open in
     let c = (flush_contents actor.0 region list cells planned s a.allowed.flushes f).at region (inl a.allowed.is_open) in
     new_capture s.made actor.0 region list _ _ (region_at s.plain.tables region) s.captures s.plain.captures w.0 w.1 w.2
-    (same-trans (same-equal (sym (ap (λ (l : RegionFiles). cells_in s.made l.entries) (set_here region list s.lists)))) c) f.copied
+    (same-trans (same-equal (sym (ap (λ (l : RegionFiles). cells_in s.made l.entries) (set_here region list s.lists)))) c) (a.allowed.flushes.seq ∙ sym (set_here region _ s.plain.kept)) f.copied
 captures_kept (step.End actor refusal) s few a h f = ended_captures s.made actor.0 s.captures s.plain.captures f.copied
 captures_kept (step.Abandon actor) s few a h f = ended_captures s.made actor.0 s.captures s.plain.captures f.copied
 captures_kept (step.CommitRegions actor table number name set change) s few a h f = subst (CapturesAgree s.made s.captures) (sym (change_captures _ change table actor.0 s a.is_change)) f.copied

@@ -1,5 +1,5 @@
 -- A change of tables leaves the cells and numbers of the regions that were there.
-use Rattle.std.proofs.Common.{◌≡◌, ℕ, ◌||◌, Bool, true, false, List, [], ◌∷◌, Option, Some, None, refl, sym, ap, ◌∙◌, subst, inl, inr}
+use Rattle.std.proofs.Common.{◌≡◌, ℕ, ◌||◌, true, false, List, [], ◌∷◌, Option, Some, refl, sym, subst, inl, inr}
 use Rattle.std.specs.Prelude.{map}
 use Rattle.std.specs.List.{list_any}
 use Rattle.hb_records.specs.declared.region_info.RegionInfo.{RegionInfo}
@@ -10,7 +10,7 @@ use Rattle.plain_model.specs.declared.job.Job.TheVariants as jobs
 use Rattle.plain_model.specs.declared.region_key.RegionKey.{RegionKey}
 use Rattle.plain_model.specs.Keys.{key_of, same_key}
 use Rattle.plain_model.specs.Laws.{LeavesRegion, named, is_stop}
-use Rattle.plain_model.specs.LiveEvents.{job_of, noted_on}
+use Rattle.plain_model.specs.LiveEvents.{noted_on}
 use Rattle.plain_model.proofs.PlainLaws.{leaves_others}
 use Rattle.cell_sight.specs.Member.{Member}
 use Rattle.core_model.specs.Actors.{IsRegion}

@@ -1,17 +1,15 @@
 -- Each step keeps that the files of each region have its cells.
-use Rattle.std.proofs.Common.{◌≡◌, ◌≤◌, ℕ, ◌++◌, true, false, cond, List, Some, None, refl, sym, ap, ◌∙◌, subst, inl, inr}
+use Rattle.std.proofs.Common.{◌≤◌, ℕ, ◌++◌, true, false, List, Some, refl, sym, ap, ◌∙◌, subst}
 use Rattle.std.specs.Prelude.{map, Ok}
 use Rattle.hb_cell.specs.declared.cell.Cell.{Cell}
 use Rattle.plain_model.specs.declared.region_key.RegionKey.{RegionKey}
 use Rattle.plain_model.specs.After.{after_all}
-use Rattle.plain_model.specs.CellEvents.{each_with}
 use Rattle.plain_model.specs.Found.{families_of}
 use Rattle.plain_model.specs.Keys.{set_at}
 use Rattle.plain_model.specs.LiveEvents.{job_of}
 use Rattle.cell_sight.specs.Same.{Same}
 use Rattle.core_model.specs.declared.entry.Entry.{Entry}
 use Rattle.core_model.specs.declared.entry.Entry.TheVariants.{Own}
-use Rattle.core_model.specs.declared.recipe.Recipe.TheVariants as recipes
 use Rattle.core_model.specs.declared.region_files.RegionFiles.{RegionFiles}
 use Rattle.core_model.specs.declared.targets.MoveFrom.TheVariants as moves
 use Rattle.core_model.specs.declared.targets.Why.TheVariants as why
@@ -20,7 +18,7 @@ use Rattle.core_model.specs.declared.step.Step.{Step}
 use Rattle.core_model.specs.declared.step.Step.TheVariants as step
 use Rattle.core_model.specs.Actors.{IsRegion}
 use Rattle.core_model.specs.Allows.{Allows}
-use Rattle.core_model.specs.Entries.{Made, base_of, cells_in, no_list}
+use Rattle.core_model.specs.Entries.{cells_in, no_list}
 use Rattle.core_model.specs.Events.{events_of}
 use Rattle.core_model.specs.FileChanges.{made_by, lists_by}
 use Rattle.core_model.specs.ListGuards.{Loads}

@@ -1,5 +1,5 @@
 -- Each step keeps that complete snapshots are those of the plain machine.
-use Rattle.std.proofs.Common.{◌≡◌, ◌≤◌, ℕ, Bool, true, false, cond, List, [], ◌∷◌, Option, Some, None, refl, sym, ap, ◌∙◌, subst, inl, inr}
+use Rattle.std.proofs.Common.{◌≡◌, ◌≤◌, ℕ, true, false, cond, List, [], ◌∷◌, Option, Some, None, refl, sym, ap, ◌∙◌, subst}
 use Rattle.std.specs.Prelude.{Ok, option_map, IsSome}
 use Rattle.std.specs.List.{AllZip, filter_map, flat_map, cons_option}
 use Rattle.std.specs.FinMap.{get, insert, remove}
@@ -56,7 +56,7 @@ use Rattle.core_contents.proofs.MadeStays.{alike, made_stays}
 zip_more : (made more : Made) (rs : List CopiedRegion) (cs : List RegionCopy) → ((e : Entry) → Member e (flat_map (λ (r : CopiedRegion). r.entries) rs) → more (base_of e) ≡ made (base_of e)) → AllZip (IsCopy made) rs cs → AllZip (IsCopy more) rs cs
 zip_more made more [] [] k h = tt
 zip_more made more (r ∷ rs) (c ∷ cs) k h = (
-  record { region = h.0.region; same = same-trans (same-equal (alike made more r.entries (λ e m. k e (member-front e r.entries _ m)))) h.0.same },
+  record { region = h.0.region; same = same-trans (same-equal (alike made more r.entries (λ e m. k e (member-front e r.entries _ m)))) h.0.same; number = h.0.number },
   zip_more made more rs cs (λ e m. k e (member-behind e r.entries _ m)) h.1,
 )
 zip_more made more [] (c ∷ cs) k h = absurd h
@@ -83,12 +83,12 @@ zip_captured made captures copies (i ∷ is) k = one (captures (key_of i)) (copi
     one : (o : Option RegionFiles) (q : Option RegionCopy) → IsCaptureOf made (key_of i) o q → AllZip (IsCopy made) (filter_map (copied captures) is) (plain.captured copies is)
         → AllZip (IsCopy made) (cons_option (option_map (λ (l : RegionFiles). record { info = i; seq = l.seq; entries = l.entries }) o) (filter_map (copied captures) is)) (with_capture q (plain.captured copies is))
     one None None c z = z
-    one (Some l) (Some y) c z = (record { region = sym c.region; same = c.same }, z)
+    one (Some l) (Some y) c z = (record { region = sym c.region; same = c.same; number = c.number }, z)
     one None (Some y) c z = absurd c
     one (Some l) None c z = absurd c
 
 -- the job of an actor that takes a snapshot
-take_job : (name t : List ℕ) (job : Job) → FitsJob (holds.Take name t) job → job ≡ jobs.Snapshot t name
+pub take_job : (name t : List ℕ) (job : Job) → FitsJob (holds.Take name t) job → job ≡ jobs.Snapshot t name
 take_job name t (jobs.Snapshot u n) f = (λ i. jobs.Snapshot (f.0 i) (f.1 i))
 take_job name t _ f = absurd f
 
@@ -115,7 +115,7 @@ with_agree made name t captures copies None x y i k h = absurd (cc)
 with_agree made name t captures copies (Some u) x y i k h = both_put made x y name _ _ (refl, zip_captured made captures copies (open_of u.regions) k) h
 
 -- a change of tables makes no snapshot
-change_snapshots : (job : Option Job) (change : Event) (table : List ℕ) (a : ℕ) (s : Parts) → IsChange job change table a s → snapshots_on change s.plain.live s.plain.captures s.plain.tables s.plain.snapshots ≡ s.plain.snapshots
+pub change_snapshots : (job : Option Job) (change : Event) (table : List ℕ) (a : ℕ) (s : Parts) → IsChange job change table a s → snapshots_on change s.plain.live s.plain.captures s.plain.tables s.plain.snapshots ≡ s.plain.snapshots
 change_snapshots job (event.Complete w) table a s z = absurd (no job z)
   where
     no : (job : Option Job) → IsChange job (event.Complete w) table a s → ⊥

@@ -1,6 +1,6 @@
 -- The cells of an entry are of its family, where those of its base are.
-use Rattle.std.proofs.Common.{◌≡◌, ℕ, true, false, List, [], ◌∷◌, Option, Some, None, refl, sym, ap, ◌∙◌, inl, inr}
-use Rattle.std.specs.Prelude.{map, unwrap_or}
+use Rattle.std.proofs.Common.{◌≡◌, ℕ, true, List, [], ◌∷◌, Option, Some, None, refl, sym, ap, ◌∙◌, inl, inr}
+use Rattle.std.specs.Prelude.{unwrap_or}
 use Rattle.hb_cell.specs.declared.cell.Cell.{Cell}
 use Rattle.plain_model.specs.declared.region_key.RegionKey.{RegionKey}
 use Rattle.plain_model.specs.Keys.{same_key}

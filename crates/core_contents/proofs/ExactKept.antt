@@ -1,12 +1,11 @@
 -- Each step keeps that what is planned is what the plain machine will make.
 use Rattle.std.proofs.lemmas.Bool.Decides.{nat_tests}
-use Rattle.std.proofs.Common.{arith, ◌≡◌, ◌≢◌, ℕ, ◌+◌, ◌==◌, Bool, true, false, cond, List, [], ◌∷◌, ◌++◌, Option, Some, None, refl, sym, ap, ◌∙◌, subst, inl, inr}
+use Rattle.std.proofs.Common.{arith, ◌≡◌, ◌≢◌, ℕ, ◌+◌, ◌==◌, true, false, cond, List, [], ◌∷◌, ◌++◌, Option, Some, None, refl, sym, ap, ◌∙◌, subst, inl, inr}
 use Rattle.std.specs.Prelude.{map, option_map, option_to_list, zip, is_some, IsSome}
 use Rattle.std.specs.List.{AllZip, AllByRecursion}
-use Rattle.std.specs.FinMap.{get, insert, remove}
+use Rattle.std.specs.FinMap.{get}
 use Rattle.std.proofs.lemmas.List.{append-nil, map-append}
 use Rattle.hb_cell.specs.declared.cell.Cell.{Cell}
-use Rattle.hb_cell.specs.Order.{same_bytes}
 use Rattle.hb_layout.specs.declared.base.Base.{Base}
 use Rattle.hb_records.specs.declared.region_info.RegionInfo.{RegionInfo}
 use Rattle.region_set.specs.declared.region_set.RegionSet.{RegionSet}
@@ -42,7 +41,7 @@ use Rattle.core_model.specs.declared.step.Step.{Step}
 use Rattle.core_model.specs.declared.step.Step.TheVariants as step
 use Rattle.core_model.specs.ActorChanges.{plans_by}
 use Rattle.core_model.specs.ActorFacts.{FitsJob, used_by}
-use Rattle.core_model.specs.Actors.{HasHold, IsLive, IsRegion, MayFlush, commits_table, commits_region, commits_flush}
+use Rattle.core_model.specs.Actors.{HasHold, IsRegion, MayFlush, commits_table, commits_region, commits_flush}
 use Rattle.core_model.specs.Allows.{Allows}
 use Rattle.core_model.specs.Entries.{is_half, no_list}
 use Rattle.core_model.specs.FileChanges.{lists_by, snapshots_by}
@@ -62,9 +61,8 @@ use Rattle.core_sound.proofs.LiveKept.{live_after, find-front, find-without, hol
 use Rattle.core_sound.proofs.NeverAgain.{tables_after}
 use Rattle.core_sound.proofs.NumbersKept.{new_found}
 use Rattle.core_sound.proofs.RegionsStay.{region_stays}
-use Rattle.core_sound.proofs.Sources.{row_region, map-member}
-use Rattle.core_sound.proofs.TablesKept.{put_other}
-use Rattle.core_sound.proofs.Tests.{same_bytes-self, same_bytes-true, same_number, same_key-true}
+use Rattle.core_sound.proofs.Sources.{row_region}
+use Rattle.core_sound.proofs.Tests.{same_bytes-self, same_number, same_key-true}
 use Rattle.core_sound.proofs.Vacant.{each-cases, drawn_out, same_key-self, not_taken, holds_not, split_refuse}
 use Rattle.core_contents.specs.Faithful.{IsFaithful}
 use Rattle.core_contents.specs.PlanFacts.{SplitPlan, Splits, CopyPlan, IsPlan, PlansExact}
@@ -115,11 +113,11 @@ some_live : (o : Option Live) → IsSome o → (l : Live) × (o ≡ Some l)
 some_live None e = absurd (cc)
 some_live (Some l) e = (l, refl)
 
-planned_live : (s : Parts) (w : ℕ) (is : List RegionInfo) → (s.plans w).regions ≡ is → is ≢ [] → IsSound s → (l : Live) × (live_of s.plain.live w ≡ Some l)
+pub planned_live : (s : Parts) (w : ℕ) (is : List RegionInfo) → (s.plans w).regions ≡ is → is ≢ [] → IsSound s → (l : Live) × (live_of s.plain.live w ≡ Some l)
 planned_live s w [] e n h = absurd (n refl)
 planned_live s w (i ∷ is) e n h = some_live (live_of s.plain.live w) (h.once.by_live w i (subst (Member i) (sym e) (inl refl)))
 
-not_actor : (w a : ℕ) → w == a ≡ false → a ≡ w → ⊥
+pub not_actor : (w a : ℕ) → w == a ≡ false → a ≡ w → ⊥
 not_actor w a d e = grind (arith, nat_tests)
 
 -- ---- a start
@@ -308,10 +306,10 @@ held_alone why.Bulk a w r l cells more s g h d y i = clash s w a (holds.Region r
 held_alone why.Build a w r l cells more s g h d y i = g.out i
 
 -- a split's actor holds regions alone
-split_fits : (s : Parts) (a : ℕ) (t row : List ℕ) (x : Hold) → IsSound s → job_of s.plain.live a ≡ Some (jobs.Split t row) → HasHold s.plain.live a x → FitsJob x (jobs.Split t row)
+pub split_fits : (s : Parts) (a : ℕ) (t row : List ℕ) (x : Hold) → IsSound s → job_of s.plain.live a ≡ Some (jobs.Split t row) → HasHold s.plain.live a x → FitsJob x (jobs.Split t row)
 split_fits s a t row x h j k = subst (FitsJob x) (some_is (sym (hold_job s.plain.live a _ k) ∙ j)) (hold_fits s.plain.live a _ h.fits k)
 
-flush_hold : (s : Parts) (a : ℕ) (r : RegionKey) (t row : List ℕ) → IsSound s → job_of s.plain.live a ≡ Some (jobs.Split t row) → MayFlush s.plain.live a r → HasHold s.plain.live a (holds.Region r)
+pub flush_hold : (s : Parts) (a : ℕ) (r : RegionKey) (t row : List ℕ) → IsSound s → job_of s.plain.live a ≡ Some (jobs.Split t row) → MayFlush s.plain.live a r → HasHold s.plain.live a (holds.Region r)
 flush_hold s a r t row h j (commits_table x) = absurd (split_fits s a t row _ h j x)
 flush_hold s a r t row h j (commits_region x) = x
 flush_hold s a r t row h j (commits_flush x) = absurd (split_fits s a t row _ h j x)
@@ -326,7 +324,7 @@ more_none : (o : Option Job) (is : List RegionInfo) (r : RegionKey) (es : List E
 more_none (Some (jobs.Split t row)) is r es n = absurd (n t row refl)
 more_none _ is r es n = refl
 
-none_gained : (reason : Why) (a : ℕ) (r : RegionKey) (l : RegionFiles) (cells : List Cell) (more : List (List ℕ × Entry)) (s : Parts) → ((t row : List ℕ) → job_of s.plain.live a ≡ Some (jobs.Split t row) → ⊥) → AllowsList reason a r l cells more s → more ≡ []
+pub none_gained : (reason : Why) (a : ℕ) (r : RegionKey) (l : RegionFiles) (cells : List Cell) (more : List (List ℕ × Entry)) (s : Parts) → ((t row : List ℕ) → job_of s.plain.live a ≡ Some (jobs.Split t row) → ⊥) → AllowsList reason a r l cells more s → more ≡ []
 none_gained why.Flush a r l cells more s n g = g.1.halves ∙ more_none (job_of s.plain.live a) _ r _ n
 none_gained why.Capture a r l cells more s n g = g.flushes.halves ∙ more_none (job_of s.plain.live a) _ r _ n
 none_gained (why.Compact major) a r l cells more s n g = g.unplanned

@@ -1,8 +1,7 @@
 -- Each step keeps that the cells of entries are of their families.
-use Rattle.std.proofs.Common.{◌≡◌, ◌≤◌, ℕ, ◌++◌, ◌&&◌, ◌==◌, Bool, true, false, cond, List, [], ◌∷◌, Option, Some, None, refl, sym, ap, ◌∙◌, subst, inl, inr}
+use Rattle.std.proofs.Common.{◌≡◌, ◌≤◌, ℕ, ◌++◌, ◌&&◌, ◌==◌, Bool, true, false, cond, List, [], ◌∷◌, Option, Some, None, refl, sym, ◌∙◌, subst, inl, inr}
 use Rattle.std.specs.Prelude.{map, unwrap_or, Ok}
 use Rattle.std.specs.List.{AllZip}
-use Rattle.std.specs.FinMap.{get}
 use Rattle.hb_cell.specs.declared.cell.Cell.{Cell}
 use Rattle.hb_cell.specs.Order.{same_bytes}
 use Rattle.hb_layout.specs.declared.base.Base.{Base}
@@ -13,12 +12,10 @@ use Rattle.plain_model.specs.declared.region_key.RegionKey.{RegionKey}
 use Rattle.plain_model.specs.Found.{families_of}
 use Rattle.plain_model.specs.Keys.{same_key, key_of}
 use Rattle.cell_sight.specs.Member.{Member}
-use Rattle.cell_sight.specs.Same.{sorted}
 use Rattle.core_model.specs.declared.entry.Entry.{Entry}
 use Rattle.core_model.specs.declared.entry.Entry.TheVariants.{Own}
 use Rattle.core_model.specs.declared.plan.Plan.{Plan}
 use Rattle.core_model.specs.declared.region_files.RegionFiles.{RegionFiles}
-use Rattle.core_model.specs.declared.snapshot.Snapshot.{Snapshot}
 use Rattle.core_model.specs.declared.targets.MoveFrom.TheVariants as moves
 use Rattle.core_model.specs.declared.targets.Why.{Why}
 use Rattle.core_model.specs.declared.targets.Why.TheVariants as why
@@ -28,13 +25,13 @@ use Rattle.core_model.specs.declared.step.Step.TheVariants as step
 use Rattle.core_model.specs.ActorChanges.{captures_by, plans_by, pins_by, stale_at}
 use Rattle.core_model.specs.Actors.{IsRegion}
 use Rattle.core_model.specs.Allows.{Allows}
-use Rattle.core_model.specs.Entries.{Made, base_of, cells_in, is_in}
+use Rattle.core_model.specs.Entries.{base_of, cells_in, is_in}
 use Rattle.core_model.specs.FileChanges.{made_by, lists_by, snapshots_by}
 use Rattle.core_model.specs.ListGuards.{AllowsList, Flushes, IsFlushed, IsOutput, IsMerge, Merge, FitsFamily}
 use Rattle.core_model.specs.Named.{listed, in_snapshot, captured, planned, pinned}
 use Rattle.core_model.specs.PassChanges.{snapshot_entries}
 use Rattle.core_model.specs.Plans.{more_entries}
-use Rattle.core_model.specs.Recipes.{frozen_cells, of_family, merged}
+use Rattle.core_model.specs.Recipes.{frozen_cells, merged}
 use Rattle.core_model.specs.Replay.{after}
 use Rattle.core_model.specs.Sound.{IsSound}
 use Rattle.core_model.specs.State.{Parts, Pinned, no_plan}

@@ -1,6 +1,6 @@
 -- Each step keeps that what a major pin gave stands in front of its list.
-use Rattle.std.proofs.Common.{◌≡◌, ℕ, ◌≤◌, ◌+◌, ◌&&◌, ◌==◌, Bool, true, false, not, cond, List, [], ◌∷◌, ◌++◌, length, Option, Some, None, refl, sym, ap, ◌∙◌, subst, inl, inr, arith}
-use Rattle.std.specs.Prelude.{map, take, unwrap_or, is_some, Ok, Err, zero, suc}
+use Rattle.std.proofs.Common.{◌≡◌, ℕ, ◌≤◌, ◌&&◌, ◌==◌, Bool, true, false, not, cond, List, [], ◌∷◌, ◌++◌, length, Option, Some, None, refl, sym, ap, ◌∙◌, subst, inl, inr, arith}
+use Rattle.std.specs.Prelude.{map, take, unwrap_or, is_some, Ok, zero, suc}
 use Rattle.cell_sight.specs.Same.{Same}
 use Rattle.plain_model.specs.declared.hold.Hold.{Hold}
 use Rattle.hb_cell.specs.declared.cell.Cell.{Cell}
@@ -14,7 +14,6 @@ use Rattle.plain_model.specs.declared.parts.PlainTable.{PlainTable}
 use Rattle.core_model.specs.declared.entry.Entry.{Entry}
 use Rattle.core_model.specs.declared.region_files.RegionFiles.{RegionFiles}
 use Rattle.plain_model.specs.After.{after, after_all}
-use Rattle.core_model.specs.declared.recipe.Recipe.TheVariants as recipes
 use Rattle.core_model.specs.declared.targets.MoveFrom.TheVariants as moves
 use Rattle.core_model.specs.declared.targets.Why.TheVariants as why
 use Rattle.core_model.specs.declared.step.Started.TheVariants as started

@@ -1,5 +1,5 @@
 -- What each step keeps, each entry of a journal keeps, done or failed.
-use Rattle.std.proofs.Common.{◌≡◌, ℕ, ◌+◌, Bool, true, false, List, [], ◌∷◌, take, refl}
+use Rattle.std.proofs.Common.{ℕ, ◌+◌, true, false, List, [], ◌∷◌, take}
 use Rattle.core_model.specs.declared.journal.JournalEntry.{JournalEntry}
 use Rattle.core_model.specs.declared.opening.Opening.{Opening}
 use Rattle.core_model.specs.Allows.{AllowsEntry, AllowsFrom, AllowsAll}

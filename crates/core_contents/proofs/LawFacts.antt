@@ -1,7 +1,7 @@
 -- What the laws say of journals over an empty store, of snapshots and of commits.
-use Rattle.std.proofs.Common.{◌≡◌, ◌≤◌, ℕ, ◌++◌, Bool, true, false, cond, List, [], ◌∷◌, take, drop, Option, Some, None, refl, sym, ap, ◌∙◌, subst, inl, inr}
+use Rattle.std.proofs.Common.{◌≡◌, ◌≤◌, ℕ, ◌++◌, true, false, List, [], ◌∷◌, take, drop, Option, Some, None, refl, sym, ap, ◌∙◌, subst, inl, inr}
 use Rattle.std.specs.Prelude.{map, unwrap_or}
-use Rattle.std.specs.List.{AllZip, filter_map, flat_map}
+use Rattle.std.specs.List.{AllZip, flat_map}
 use Rattle.std.specs.FinMap.{get}
 use Rattle.std.proofs.lemmas.List.{take-append-drop}
 use Rattle.hb_cell.specs.declared.cell.Cell.{Cell}
@@ -14,7 +14,6 @@ use Rattle.plain_model.specs.declared.region_key.RegionKey.{RegionKey}
 use Rattle.plain_model.specs.declared.who.Actor.{Actor}
 use Rattle.plain_model.specs.CellEvents.{families_in, compacted}
 use Rattle.plain_model.specs.Found.{families_of, families_of_table, open_in}
-use Rattle.plain_model.specs.Keys.{set_at}
 use Rattle.plain_model.specs.SnapshotEvents.{captured}
 use Rattle.core_model.specs.declared.entry.Entry.{Entry}
 use Rattle.core_model.specs.declared.entry.Entry.TheVariants.{Own}
@@ -26,13 +25,13 @@ use Rattle.core_model.specs.declared.step.Step.{Step}
 use Rattle.core_model.specs.declared.step.Step.TheVariants as step
 use Rattle.core_model.specs.declared.targets.Why.TheVariants as why
 use Rattle.core_model.specs.Actors.{IsRegion}
-use Rattle.core_model.specs.Allows.{Allows, AllowsAll}
+use Rattle.core_model.specs.Allows.{Allows}
 use Rattle.core_model.specs.Entries.{cells_in}
 use Rattle.core_model.specs.FileChanges.{snapshots_by}
 use Rattle.core_model.specs.ListGuards.{Compacts, Loads}
 use Rattle.core_model.specs.Named.{in_snapshot}
 use Rattle.core_model.specs.Replay.{after}
-use Rattle.core_model.specs.SnapshotGuards.{CanComplete, snapshot_of}
+use Rattle.core_model.specs.SnapshotGuards.{CanComplete}
 use Rattle.core_model.specs.Sound.{IsSound}
 use Rattle.core_model.specs.StartGuards.{is_major}
 use Rattle.core_model.specs.State.{Parts}

@@ -20,3 +20,5 @@ pub mod PlannedFor
 pub mod SeenFacts
 pub mod Tools
 pub mod LawFacts
+pub mod KeptKept
+pub mod NumbersKept

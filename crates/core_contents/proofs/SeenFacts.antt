@@ -1,7 +1,6 @@
 -- What a major compaction asks of the visible cells.
 use Rattle.std.proofs.Common.{ℕ, List}
 use Rattle.hb_cell.specs.Order.{same_bytes}
-use Rattle.cell_sight.specs.Visible.{visible}
 use Rattle.cell_sight.proofs.SeenParts.{same_seen, seen_by_family}
 use Rattle.cell_sight.proofs.ShownExactly.{shows_exactly}
 use Rattle.core_contents.proofs.Majored.{SeenLaws}

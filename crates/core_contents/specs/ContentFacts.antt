@@ -1,5 +1,5 @@
 -- What the files of regions and snapshots hold, beside the plain state.
-use Rattle.std.specs.Prelude.{◌≡◌, ℕ, ◌≤◌, ◌++◌, true, List, [], take, length, Option, Some, None, unwrap_or}
+use Rattle.std.specs.Prelude.{◌≡◌, ℕ, ◌≤◌, ◌++◌, true, List, take, length, Option, Some, None, unwrap_or}
 use Rattle.std.specs.List.{AllZip}
 use Rattle.std.specs.FinMap.{get}
 use Rattle.hb_cell.specs.declared.cell.Cell.{Cell}
@@ -30,10 +30,15 @@ use Rattle.core_model.specs.State.{Pinned}
 pub record HasContents (made : Made) (lists : RegionKey → RegionFiles) (tables : Names PlainTable) (stable : RegionKey → List Cell) : Type 0 where
   pub at : (r : RegionKey) → IsRegion tables r → Same (cells_in made (lists r).entries) (stable r)
 
--- a copied region has the key and the cells of its plain copy
+-- its list has its number
+pub record HasKept (lists : RegionKey → RegionFiles) (tables : Names PlainTable) (kept : RegionKey → ℕ) : Type 0 where
+  pub at : (r : RegionKey) → IsRegion tables r → (lists r).seq ≡ kept r
+
+-- a copied region has the key, the cells and the number of its plain copy
 pub record IsCopy (made : Made) (r : CopiedRegion) (c : RegionCopy) : Type 0 where
   pub region : key_of r.info ≡ key_of c.region
   pub same : Same (cells_in made r.entries) c.cells
+  pub number : r.seq ≡ c.number
 
 abbrev pub Copies : Made → Option Snapshot → Option PlainSnapshot → Type 0
 Copies made None None = Unit {0}
@@ -44,10 +49,11 @@ Copies made _ _ = ⊥
 pub record SnapshotsAgree (made : Made) (snapshots : Names Snapshot) (copies : Names PlainSnapshot) : Type 0 where
   pub at : (name : List ℕ) → Copies made (get snapshots name) (get copies name)
 
--- a capture of a region has the cells of its plain capture
+-- a capture of a region has the cells and the number of its plain capture
 pub record HasCapture (made : Made) (r : RegionKey) (l : RegionFiles) (c : RegionCopy) : Type 0 where
   pub region : key_of c.region ≡ r
   pub same : Same (cells_in made l.entries) c.cells
+  pub number : l.seq ≡ c.number
 
 abbrev pub IsCaptureOf : Made → RegionKey → Option RegionFiles → Option RegionCopy → Type 0
 IsCaptureOf made r None None = Unit {0}

@@ -2,3 +2,4 @@ pub mod ContentFacts
 pub mod PlanFacts
 pub mod Faithful
 pub mod Laws
+pub mod BuiltNumbers
