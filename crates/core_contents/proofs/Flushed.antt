@@ -37,7 +37,7 @@ own_cells made b cs n e =
     ap (λ o. filter (λ c. true) (map (with_seq o) (unwrap_or (made b) []))) n ∙ ap (λ o. filter (λ c. true) (map (with_seq None) (unwrap_or o []))) e ∙ every_cell _ ∙ same_numbers cs
 
 -- the files of a flush have the frozen cells, family by family
-flushed_cells : (a : ℕ) (r : RegionKey) (s : Parts) (fs : List (List ℕ)) (bs : List Base) → AllZip (IsFlushed a r s) fs bs → Same (cells_in s.made (map Own bs)) (of_families fs (frozen_cells s.plain r))
+pub flushed_cells : (a : ℕ) (r : RegionKey) (s : Parts) (fs : List (List ℕ)) (bs : List Base) → AllZip (IsFlushed a r s) fs bs → Same (cells_in s.made (map Own bs)) (of_families fs (frozen_cells s.plain r))
 flushed_cells a r s [] [] h = same-refl []
 flushed_cells a r s (f ∷ fs) (b ∷ bs) h =
     same-append (same-trans (same-equal (own_cells s.made b _ h.0.unnumbered h.0.made)) (same-sorted (of_family f (frozen_cells s.plain r)))) (flushed_cells a r s fs bs h.1)

@@ -22,3 +22,4 @@ pub mod Tools
 pub mod LawFacts
 pub mod KeptKept
 pub mod NumbersKept
+pub mod SnapshotsStay

@@ -1,5 +1,5 @@
 -- What the files of the core hold, each as the contract of a law of its own.
-use Rattle.std.specs.Prelude.{◌≡◌, ℕ, ◌≤◌, true, false, List, ◌++◌, map, take, Some}
+use Rattle.std.specs.Prelude.{◌≡◌, ℕ, ◌≤◌, true, false, List, [], ◌++◌, map, take, Some, ◌∷◌}
 use Rattle.std.specs.List.{AllZip}
 use Rattle.std.specs.FinMap.{get}
 use Rattle.hb_cell.specs.declared.cell.Cell.{Cell}
@@ -25,6 +25,7 @@ use Rattle.core_model.specs.Allows.{Allows, AllowsAll}
 use Rattle.core_model.specs.Entries.{cells_in}
 use Rattle.core_model.specs.ListGuards.{Compacts, Loads}
 use Rattle.core_model.specs.Opened.{opened}
+use Rattle.core_model.specs.Recipes.{frozen_cells}
 use Rattle.core_model.specs.Replay.{after, replay}
 use Rattle.core_model.specs.SnapshotGuards.{CanComplete}
 use Rattle.core_model.specs.Sound.{IsSound}
@@ -80,6 +81,23 @@ pub record StaysAs (name : List ℕ) (x : Snapshot) (s t : Parts) : Type 0 where
 
 abbrev pub StaysComplete : Step → Parts → List ℕ → Snapshot → Type 0
 StaysComplete p s name x = s.files ≤ 4_194_304 → Allows p s → IsSound s → get s.snapshots name ≡ Some x → (Deletes p name → ⊥) → StaysAs name x s (after p s)
+
+-- so it is as long as no entry of a journal deletes it
+abbrev pub NoneDeletes : List JournalEntry → List ℕ → Type 0
+NoneDeletes [] name = Unit {0}
+NoneDeletes (e ∷ es) name = (Deletes e.step name → ⊥) × NoneDeletes es name
+
+abbrev pub StaysCompleteIn : Opening → List JournalEntry → List JournalEntry → List ℕ → Snapshot → Type 0
+StaysCompleteIn o es more name x = IsSound (opened o) → AllowsAll o (es ++ more) → get (replay o es).now.snapshots name ≡ Some x → NoneDeletes more name → StaysAs name x (replay o es).now (replay o (es ++ more)).now
+
+-- what is captured with a flush, in one step, is the region with the flushed cells
+pub record HasCapturedNow (a : ℕ) (r : RegionKey) (l : RegionFiles) (s t : Parts) : Type 0 where
+  pub capture : t.captures a r ≡ Some l
+  pub whole : Same (cells_in t.made l.entries) (file_cells s r ++ frozen_cells s.plain r)
+
+abbrev pub CapturesFlush : Actor → RegionKey → ℕ → List ℕ → RegionFiles → List Cell → List (List ℕ × Entry) → Parts → Type 0
+CapturesFlush actor r n name l cells more s =
+    Allows (step.CommitList actor r n name why.Capture l cells more) s → HasCapturedNow actor.0 r l s (after (step.CommitList actor r n name why.Capture l cells more) s)
 
 -- ---- commits
 

@@ -11,7 +11,7 @@ ghost use Rattle.core_model.specs.declared.region_files.RegionFiles.{RegionFiles
 ghost use Rattle.core_model.specs.declared.snapshot.Snapshot.{Snapshot};
 ghost use Rattle.core_model.specs.declared.step.Step.{Step};
 ghost use Rattle.core_model.specs.State.{Parts};
-ghost use Rattle.core_contents.specs.Laws.{KeepsFaithful, LeadsToFaithful, BeginsFaithful, HasCellsAfter, CompletesCaptures, StaysComplete, JoinsAtOnce, KeepsCells, CompactsVisibly};
+ghost use Rattle.core_contents.specs.Laws.{KeepsFaithful, LeadsToFaithful, BeginsFaithful, HasCellsAfter, CompletesCaptures, StaysComplete, StaysCompleteIn, CapturesFlush, JoinsAtOnce, KeepsCells, CompactsVisibly};
 
 /// Each allowed step keeps that the files have what the plain machine has: each region its cells, each capture and each
 /// completed snapshot those of its plain copy. So each front of a journal of allowed entries does, done or failed, and a
@@ -23,9 +23,12 @@ pub fn steps_keep_contents()
     ensures cells { (epoch ttl : ℕ) (es : List JournalEntry) (k : ℕ) (r : RegionKey) → HasCellsAfter epoch ttl es k r }
 {}
 
-/// A snapshot that is completed has, region by region, the same cells as its captures, and keeps them until it is deleted.
+/// A capture that flushes has, in one step, the region's cells with the flushed ones. A snapshot that is completed has,
+/// region by region, the same cells as its captures, and keeps them until it is deleted.
 pub fn snapshots_read_their_captures()
     ensures completed { (actor : Actor) (name : List ℕ) (x : Snapshot) (s : Parts) → CompletesCaptures actor name x s }
+    ensures flushed { (actor : Actor) (r : RegionKey) (n : ℕ) (name : List ℕ) (l : RegionFiles) (cells : List Cell) (more : List (List ℕ × Entry)) (s : Parts) → CapturesFlush actor r n name l cells more s }
+    ensures journal { (o : Opening) (es more : List JournalEntry) (name : List ℕ) (x : Snapshot) → StaysCompleteIn o es more name x }
     ensures kept { (p : Step) (s : Parts) (name : List ℕ) (x : Snapshot) → StaysComplete p s name x }
 {}
 

@@ -1,11 +1,9 @@
 -- Each step keeps that what is planned is planned once, for new regions, and that their lists have only planned entries.
 use Rattle.std.proofs.Common.{◌+◌, ◌≡◌, ◌⊎◌, ℕ, ◌==◌, Bool, true, false, not, cond, List, [], ◌∷◌, ◌++◌, Option, Some, None, refl, sym, ap, ◌∙◌, subst, inl, inr}
-use Rattle.std.specs.Prelude.{map, zip, is_some, Ok}
+use Rattle.std.specs.Prelude.{map, zip, is_some}
 use Rattle.hb_cell.specs.declared.cell.Cell.{Cell}
 use Rattle.std.specs.FinMap.{get}
 use Rattle.hb_records.specs.declared.region_info.RegionInfo.{RegionInfo}
-use Rattle.plain_model.specs.declared.event.Event.{Event}
-use Rattle.plain_model.specs.declared.event.Event.TheVariants as event
 use Rattle.plain_model.specs.declared.job.Job.{Job}
 use Rattle.plain_model.specs.declared.job.Job.TheVariants as jobs
 use Rattle.plain_model.specs.declared.region_key.RegionKey.{RegionKey}
@@ -22,7 +20,6 @@ use Rattle.core_model.specs.declared.entry.Entry.{Entry}
 use Rattle.core_model.specs.declared.plan.Plan.{Plan}
 use Rattle.core_model.specs.declared.region_files.RegionFiles.{RegionFiles}
 use Rattle.core_model.specs.declared.snapshot.CopiedRegion.{CopiedRegion}
-use Rattle.core_model.specs.declared.targets.MoveFrom.TheVariants as moves
 use Rattle.core_model.specs.declared.targets.Why.{Why}
 use Rattle.core_model.specs.declared.targets.Why.TheVariants as why
 use Rattle.core_model.specs.declared.step.Started.TheVariants as started
@@ -39,11 +36,10 @@ use Rattle.core_model.specs.Keys.{set_actor}
 use Rattle.core_model.specs.ListGuards.{AllowsList}
 use Rattle.core_model.specs.LiveChanges.{live_by}
 use Rattle.core_model.specs.Plans as plans
-use Rattle.core_model.specs.SetGuards.{IsChange}
 use Rattle.core_model.specs.Sound.{IsSound}
 use Rattle.core_model.specs.StartGuards.{AreFiles, IsTaken, by_set, by_drawn, regions_for}
 use Rattle.core_model.specs.State.{Parts, no_plan}
-use Rattle.core_model.specs.TableChanges.{tables_by, added_by}
+use Rattle.core_model.specs.TableChanges.{tables_by}
 use Rattle.core_sound.proofs.RegionFacts.{region_was}
 use Rattle.core_sound.proofs.Lists.{member-front, member-behind, member-map, member-append}
 use Rattle.core_sound.proofs.LiveKept.{live_after}

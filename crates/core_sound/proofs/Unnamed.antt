@@ -30,23 +30,23 @@ unnamed_from n (e ∷ es) s b w a h f k =
 -- ---- entries behind entries
 
 -- the number of the entry behind these
-abbrev index : ℕ → List JournalEntry → ℕ
+abbrev pub index : ℕ → List JournalEntry → ℕ
 index n [] = n
 index n (e ∷ es) = index (n + 1) es
 
-from_append : (n : ℕ) (es more : List JournalEntry) (s : State) → replay_from n s (es ++ more) ≡ replay_from (index n es) (replay_from n s es) more
+pub from_append : (n : ℕ) (es more : List JournalEntry) (s : State) → replay_from n s (es ++ more) ≡ replay_from (index n es) (replay_from n s es) more
 from_append n [] more s = refl
 from_append n (e ∷ es) more s = from_append (n + 1) es more (replay.step n s e)
 
-allows_before : (n : ℕ) (es more : List JournalEntry) (s : State) → AllowsFrom n s (es ++ more) → AllowsFrom n s es
+pub allows_before : (n : ℕ) (es more : List JournalEntry) (s : State) → AllowsFrom n s (es ++ more) → AllowsFrom n s es
 allows_before n [] more s a = tt
 allows_before n (e ∷ es) more s a = (a.0, allows_before (n + 1) es more (replay.step n s e) a.1)
 
-allows_behind : (n : ℕ) (es more : List JournalEntry) (s : State) → AllowsFrom n s (es ++ more) → AllowsFrom (index n es) (replay_from n s es) more
+pub allows_behind : (n : ℕ) (es more : List JournalEntry) (s : State) → AllowsFrom n s (es ++ more) → AllowsFrom (index n es) (replay_from n s es) more
 allows_behind n [] more s a = a
 allows_behind n (e ∷ es) more s a = allows_behind (n + 1) es more (replay.step n s e) a.1
 
-few_from : (n : ℕ) (es : List JournalEntry) (s : State) → AllowsFrom n s es → HasFew n s → HasFew (index n es) (replay_from n s es)
+pub few_from : (n : ℕ) (es : List JournalEntry) (s : State) → AllowsFrom n s es → HasFew n s → HasFew (index n es) (replay_from n s es)
 few_from n [] s a w = w
 few_from n (e ∷ es) s a w = few_from (n + 1) es (replay.step n s e) a.1 (few_after n e s a.0 w)
 
