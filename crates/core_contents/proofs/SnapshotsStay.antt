@@ -1,5 +1,5 @@
 -- What a flush captures; and a complete snapshot stays, with the cells of its regions, as long as no entry of a journal deletes it.
-use Rattle.std.proofs.Common.{◌≡◌, ℕ, ◌+◌, ◌≤◌, ◌&&◌, Bool, true, false, cond, List, [], ◌∷◌, ◌++◌, Some, refl, sym, ap, ◌∙◌, subst}
+use Rattle.std.proofs.Common.{◌≡◌, ℕ, ◌+◌, ◌≤◌, ◌&&◌, Bool, true, false, cond, List, [], ◌∷◌, Some, refl, sym, ap, ◌∙◌, subst}
 use Rattle.std.specs.FinMap.{get}
 use Rattle.std.specs.Prelude.{map}
 use Rattle.hb_cell.specs.declared.cell.Cell.{Cell}
@@ -23,7 +23,7 @@ use Rattle.core_model.specs.declared.journal.JournalEntry.{JournalEntry}
 use Rattle.core_model.specs.declared.opening.Opening.{Opening}
 use Rattle.core_model.specs.declared.snapshot.Snapshot.{Snapshot}
 use Rattle.core_model.specs.declared.step.Step.{Step}
-use Rattle.core_model.specs.Allows.{Allows, AllowsEntry, AllowsFrom}
+use Rattle.core_model.specs.Allows.{Allows, AllowsFrom}
 use Rattle.core_model.specs.Replay.{after, unless, replay_from, begun, replay}
 use Rattle.core_model.specs.Replay as replay
 use Rattle.core_model.specs.Sound.{IsSound, IsSoundState}
