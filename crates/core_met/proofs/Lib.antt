@@ -1,0 +1,4 @@
+pub mod Begin
+pub mod Flush
+pub mod Journal
+pub mod Lawful
