@@ -143,7 +143,7 @@ put_allowed ttl = record {
   );
 }
 
-no_cons : {P A : Type 0} (before : List A) (x : A) (xs : List A) → [] ≡ before ++ (x ∷ xs) → P
+pub no_cons : {P A : Type 0} (before : List A) (x : A) (xs : List A) → [] ≡ before ++ (x ∷ xs) → P
 no_cons [] x xs e = absurd (cc)
 no_cons (b ∷ bs) x xs e = absurd (cc)
 

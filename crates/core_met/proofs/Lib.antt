@@ -2,3 +2,4 @@ pub mod Begin
 pub mod Flush
 pub mod Journal
 pub mod Lawful
+pub mod Shot
