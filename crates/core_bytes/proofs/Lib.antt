@@ -1,0 +1,4 @@
+pub mod Drawn
+pub mod Journals
+pub mod SizesKept
+pub mod WrittenKept

@@ -1,0 +1,3 @@
+pub mod FileOf
+pub mod Written
+pub mod Laws

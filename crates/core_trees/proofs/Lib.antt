@@ -1,0 +1,4 @@
+pub mod CanBeDone
+pub mod FiledKept
+pub mod Numbers
+pub mod Shown
