@@ -10,37 +10,38 @@ use Rattle.core_model.specs.declared.opening.Opening.{Opening}
 use Rattle.core_model.specs.declared.step.Step.{Step}
 use Rattle.core_model.specs.declared.step.Step.TheVariants as step
 use Rattle.core_model.specs.Allows.{AllowsEntry, AllowsFrom, IsEnding}
-use Rattle.core_model.specs.Disk.{Disk, disk_of, is_regular}
+use Rattle.core_model.specs.Disk.{disk_of, is_regular}
+use Rattle.core_model.specs.Entries.{file_of}
 use Rattle.core_model.specs.Replay.{after, unless, replay_from, begun, replay}
 use Rattle.core_model.specs.Replay as replay
-use Rattle.core_model.specs.Site.{Site, Tmp, Live, Archived, site_text}
+use Rattle.core_model.specs.Site.{Site, Tmp, Live, Archived, Info, site_text}
 use Rattle.core_model.specs.Sound.{IsSoundState}
 use Rattle.core_model.specs.State.{Parts, State}
 use Rattle.core_sound.proofs.Journals.{HasFew, few_after, few-begun, allowed_other, entry_kept, sound-begun, allows_front}
 use Rattle.core_bytes.specs.Laws.{WriteFrom, LeadsToWritten, BeginsWritten}
-use Rattle.core_bytes.specs.Written.{MovesFile, WritesFile, IsWritten, IsWrittenState}
+use Rattle.core_bytes.specs.Written.{Writes, IsWritten, IsWrittenState}
 use Rattle.core_bytes.proofs.WrittenKept.{written_kept}
 
 -- ---- an entry
 
--- an ending moves no file
-ending_moves : (p : Step) (disk : Disk) → IsEnding p → MovesFile p disk
-ending_moves (step.End actor refusal) disk e = tt
-ending_moves (step.Abandon actor) disk e = tt
-ending_moves (step.Unpin actor) disk e = tt
-ending_moves _ disk e = absurd e
+-- an ending writes no file
+ending_writes : (p : Step) (s : Parts) → IsEnding p → Writes p s
+ending_writes (step.End actor refusal) s e = record { file = tt; moved = tt; part = tt }
+ending_writes (step.Abandon actor) s e = record { file = tt; moved = tt; part = tt }
+ending_writes (step.Unpin actor) s e = record { file = tt; moved = tt; part = tt }
+ending_writes _ s e = absurd e
 
--- what a step moves in the one tree it moves in the other
-moves_other : (n : ℕ) (e : JournalEntry) (s : State) → AllowsEntry n e s → IsSoundState s → MovesFile e.step s.now.disk → MovesFile e.step s.other.disk
-moves_other n e s a h m = elim a.1 [
-  | inl c ↦ subst (λ (x : Parts). MovesFile e.step x.disk) (sym (h.one c.0)) m
-  | inr c ↦ ending_moves e.step s.other.disk c.2
+-- what a step writes in the one tree it writes in the other
+writes_other : (n : ℕ) (e : JournalEntry) (s : State) → AllowsEntry n e s → IsSoundState s → Writes e.step s.now → Writes e.step s.other
+writes_other n e s a h m = elim a.1 [
+  | inl c ↦ subst (Writes e.step) (sym (h.one c.0)) m
+  | inr c ↦ ending_writes e.step s.other c.2
 ]
 
-written_entry : (n : ℕ) (e : JournalEntry) (s : State) → HasFew n s → AllowsEntry n e s → WritesFile e.step → MovesFile e.step s.now.disk → IsSoundState s → IsWrittenState s → IsWrittenState (replay.step n s e)
-written_entry n e s w a f m h k = record {
-  now = elim e.failed as (λ b. IsWritten (unless b (after e.step) s.now)) [ true ↦ k.now | false ↦ written_kept e.step s.now w.now_limit a.0.1 f m h.now k.now ];
-  other = written_kept e.step s.other w.other_limit (allowed_other n e s a h) f (moves_other n e s a h m) h.other k.other;
+written_entry : (n : ℕ) (e : JournalEntry) (s : State) → HasFew n s → AllowsEntry n e s → Writes e.step s.now → IsSoundState s → IsWrittenState s → IsWrittenState (replay.step n s e)
+written_entry n e s w a m h k = record {
+  now = elim e.failed as (λ b. IsWritten (unless b (after e.step) s.now)) [ true ↦ k.now | false ↦ written_kept e.step s.now w.now_limit a.0.1 m h.now k.now ];
+  other = written_kept e.step s.other w.other_limit (allowed_other n e s a h) (writes_other n e s a h m) h.other k.other;
 }
 
 -- ---- journals
@@ -48,7 +49,7 @@ written_entry n e s w a f m h k = record {
 written_from : (n : ℕ) (es : List JournalEntry) (s : State) → HasFew n s → AllowsFrom n s es → WriteFrom n s es → IsSoundState s → IsWrittenState s → IsWrittenState (replay_from n s es)
 written_from n [] s w a f h k = k
 written_from n (e ∷ es) s w a f h k =
-    written_from (n + 1) es (replay.step n s e) (few_after n e s a.0 w) a.1 f.1 (entry_kept n e s w a.0 h) (written_entry n e s w a.0 f.0.0 f.0.1 h k)
+    written_from (n + 1) es (replay.step n s e) (few_after n e s a.0 w) a.1 f.1 (entry_kept n e s w a.0 h) (written_entry n e s w a.0 f.0 h k)
 
 writes_front : (k n : ℕ) (es : List JournalEntry) (s : State) → WriteFrom n s es → WriteFrom n s (take k es)
 writes_front zero n es s a = tt
@@ -77,6 +78,9 @@ bare_begins epoch ttl = (
     files = record { live_made = λ b f e. absent (Live b) f e; archived_made = λ b f e. absent (Archived b) f e };
     tmps = record { at = λ name f w e. absent (Tmp name) f e };
     tied = record { at = λ name w e. absurd (cc) };
+    references = record { at = λ r e f n i k. absent (Live (file_of r e)) f k };
+    parts = record { info = λ a name t f x e. absurd (cc); manifest = λ a name t f x e. absurd (cc); captured = λ a name t x e. absurd (cc); undone = λ a e. absurd (cc) };
+    manifests = record { at = λ name x f g e i. absent (Info name) f i };
   },
   record {
     files = record { live_size = λ b f e. absent (Live b) f e; archived_size = λ b f e. absent (Archived b) f e };

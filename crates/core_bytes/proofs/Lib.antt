@@ -1,4 +1,9 @@
 pub mod Drawn
 pub mod Journals
+pub mod ManifestsKept
+pub mod PartsKept
+pub mod ReferencesKept
 pub mod SizesKept
+pub mod TakenStay
 pub mod WrittenKept
+pub mod WrittenNames

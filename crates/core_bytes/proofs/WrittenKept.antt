@@ -27,7 +27,10 @@ use Rattle.core_sound.proofs.FilesKept.{PlacedAt, OfLive, live_each, archived_ea
 use Rattle.core_sound.proofs.NamesKept.{placed_stem, piece_stem}
 use Rattle.core_sound.proofs.Tests.{cond_cases, same_bytes-true, same_bytes-self, same_base-self}
 use Rattle.core_bytes.specs.FileOf.{GivesCells, IsFileOf}
-use Rattle.core_bytes.specs.Written.{WritesFile, MovesFile, IsMade, HasFiles, HasTmps, IsTied, IsWritten}
+use Rattle.core_bytes.specs.Written.{Writes, WritesFile, MovesFile, IsMade, HasFiles, HasTmps, IsTied, IsWritten}
+use Rattle.core_bytes.proofs.ManifestsKept.{manifests_kept}
+use Rattle.core_bytes.proofs.PartsKept.{parts_kept}
+use Rattle.core_bytes.proofs.ReferencesKept.{references_kept}
 use Rattle.core_bytes.proofs.Drawn.{made_stays, digits_drawn}
 
 abbrev Tmps : Type 0
@@ -141,9 +144,12 @@ tied_kept _ s few a g h = h.tied
 
 -- ---- all
 
-pub written_kept : (p : Step) (s : Parts) → s.files ≤ 4_194_304 → Allows p s → WritesFile p → MovesFile p s.disk → IsSound s → IsWritten s → IsWritten (after p s)
-written_kept p s few a w m g h = record {
-  files = files_kept p s few a m g h;
-  tmps = tmps_kept p s a w h;
+pub written_kept : (p : Step) (s : Parts) → s.files ≤ 4_194_304 → Allows p s → Writes p s → IsSound s → IsWritten s → IsWritten (after p s)
+written_kept p s few a w g h = record {
+  files = files_kept p s few a w.moved g h;
+  tmps = tmps_kept p s a w.file h;
   tied = tied_kept p s few a g h;
+  references = references_kept p s a w.file h.references;
+  parts = parts_kept p s a w.part g h.parts;
+  manifests = manifests_kept p s a h;
 }

@@ -10,11 +10,11 @@ use Rattle.core_model.specs.Replay as replay
 use Rattle.core_model.specs.Sound.{IsSound}
 use Rattle.core_model.specs.State.{Parts, State}
 use Rattle.core_sound.specs.Laws.{bare_opening}
-use Rattle.core_bytes.specs.Written.{WritesFile, MovesFile, IsWritten, IsWrittenState, IsSized}
+use Rattle.core_bytes.specs.Written.{Writes, IsWritten, IsWrittenState, IsSized}
 
 -- a step that writes and moves files of what it says keeps what files have
 abbrev pub KeepsWritten : Step → Parts → Type 0
-KeepsWritten p s = s.files ≤ 4_194_304 → Allows p s → WritesFile p → MovesFile p s.disk → IsSound s → IsWritten s → IsWritten (after p s)
+KeepsWritten p s = s.files ≤ 4_194_304 → Allows p s → Writes p s → IsSound s → IsWritten s → IsWritten (after p s)
 
 abbrev pub KeepsSizes : Step → Parts → Type 0
 KeepsSizes p s = s.files ≤ 4_194_304 → Allows p s → IsSound s → IsSized s → IsSized (after p s)
@@ -22,7 +22,7 @@ KeepsSizes p s = s.files ≤ 4_194_304 → Allows p s → IsSound s → IsSized 
 -- each entry writes and moves files of what it says
 abbrev pub WriteFrom : ℕ → State → List JournalEntry → Type 0
 WriteFrom n s [] = Unit {0}
-WriteFrom n s (e ∷ es) = (WritesFile e.step × MovesFile e.step s.now.disk) × WriteFrom (n + 1) (replay.step n s e) es
+WriteFrom n s (e ∷ es) = Writes e.step s.now × WriteFrom (n + 1) (replay.step n s e) es
 
 -- so in each state of a journal of allowed entries files have what is known of them
 abbrev pub LeadsToWritten : Opening → List JournalEntry → ℕ → Type 0

@@ -1,3 +1,4 @@
 pub mod FileOf
+pub mod Recorded
 pub mod Written
 pub mod Laws

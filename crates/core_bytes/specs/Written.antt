@@ -8,11 +8,16 @@ use Rattle.ns_tree.specs.declared.file.FileState.{FileState}
 use Rattle.core_model.specs.declared.step.Step.{Step}
 use Rattle.core_model.specs.declared.step.Step.TheVariants as step
 use Rattle.core_model.specs.declared.targets.MoveFrom.TheVariants.{StagedBulk}
-use Rattle.core_model.specs.Disk.{Bases, Disk, tmps_of, live_of, archived_of}
-use Rattle.core_model.specs.Entries.{Made, stem}
+use Rattle.core_model.specs.Disk.{Bases, Disk, tmps_of, live_of, archived_of, infos_of, manifests_of, work_infos_of, work_manifests_of}
+use Rattle.core_model.specs.Entries.{Made, file_of, is_half, stem, IsEntryIn}
 use Rattle.core_model.specs.Site.{Staged, is_store_name}
 use Rattle.core_model.specs.State.{Parts, State, Written}
 use Rattle.core_bytes.specs.FileOf.{GivesCells, IsFileOf, IsPointer}
+use Rattle.core_bytes.specs.Recorded.{WritesPart, HasParts, HasManifests}
+use Rattle.snapshot_records.specs.declared.reference.Reference.{Reference}
+use Rattle.snapshot_records.specs.Reference.{IsReference}
+use Rattle.plain_model.specs.declared.region_key.RegionKey.{RegionKey}
+use Rattle.core_model.specs.declared.entry.Entry.{Entry}
 
 -- ---- what a step writes
 
@@ -26,6 +31,12 @@ WritesFile _ = Unit {0}
 abbrev pub MovesFile : Step → Disk → Type 0
 MovesFile (step.Place actor (StagedBulk folder name) base cells) disk = (f : FileState) → disk (Staged folder base.family name) ≡ Some f → IsHFile f.bytes cells
 MovesFile _ disk = Unit {0}
+
+-- a step writes and moves files of what it says
+pub record Writes (p : Step) (s : Parts) : Type 0 where
+  pub file : WritesFile p
+  pub moved : MovesFile p s.disk
+  pub part : WritesPart p s
 
 -- ---- what files have
 
@@ -48,10 +59,17 @@ pub record HasTmps (tmps : List ℕ → Option FileState) (written : List ℕ �
 pub record IsTied (written : List ℕ → Option Written) (made : Made) : Type 0 where
   pub at : (name : List ℕ) (w : Written) → written name ≡ Some w → GivesCells w.recipe → (b : Base) → same_bytes (stem b.name) name ≡ true → made b ≡ Some w.cells
 
+-- the file of a half is a reference
+pub record HasReferences (live : Bases) : Type 0 where
+  pub at : (r : RegionKey) (e : Entry) (f : FileState) → IsEntryIn r e → is_half e ≡ true → live (file_of r e) ≡ Some f → (x : Reference) × IsReference f.bytes x
+
 pub record IsWritten (s : Parts) : Type 0 where
   pub files : HasFiles (live_of s.disk) (archived_of s.disk) s.made
   pub tmps : HasTmps (tmps_of s.disk) s.written
   pub tied : IsTied s.written s.made
+  pub references : HasReferences (live_of s.disk)
+  pub parts : HasParts (work_infos_of s.disk) (work_manifests_of s.disk) s.parted s.captures s.plain
+  pub manifests : HasManifests (infos_of s.disk) (manifests_of s.disk) s.snapshots
 
 pub record IsWrittenState (s : State) : Type 0 where
   pub now : IsWritten s.now
