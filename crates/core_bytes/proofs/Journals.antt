@@ -1,8 +1,9 @@
 -- In each state of a journal of allowed entries files are what they were written of.
-use Rattle.std.proofs.Common.{◌≡◌, ℕ, zero, suc, ◌+◌, true, false, cond, List, [], ◌∷◌, take, Some, None, refl, sym, ◌∙◌, subst, inl, inr}
+use Rattle.std.proofs.Common.{◌≡◌, ℕ, zero, suc, ◌+◌, true, false, cond, List, [], ◌∷◌, take, Some, None, refl, sym, ap, ◌∙◌, subst, inl, inr}
 use Rattle.std.specs.FinMap.{empty, get, get-empty}
 use Rattle.std.specs.Cmp.Lexicographic.{slice_cmp}
 use Rattle.std.specs.Ordering.{nat_cmp}
+use Rattle.hb_cell.specs.Order.{bytes_cmp}
 use Rattle.ns_tree.specs.declared.file.FileState.{FileState}
 use Rattle.ns_tree.specs.Tree.{Tree}
 use Rattle.core_model.specs.declared.journal.JournalEntry.{JournalEntry}
@@ -19,6 +20,7 @@ use Rattle.core_model.specs.Sound.{IsSoundState}
 use Rattle.core_model.specs.State.{Parts, State}
 use Rattle.core_sound.proofs.Journals.{HasFew, few_after, few-begun, allowed_other, entry_kept, sound-begun, allows_front}
 use Rattle.core_bytes.specs.Laws.{WriteFrom, LeadsToWritten, BeginsWritten}
+use Rattle.core_bytes.specs.Stored.{unwritten, table_in_set}
 use Rattle.core_bytes.specs.Written.{Writes, IsWritten, IsWrittenState}
 use Rattle.core_bytes.proofs.WrittenKept.{written_kept}
 
@@ -72,6 +74,9 @@ nothing q = elim (is_regular q) as (λ b. cond b (get bare (site_text q)) None �
 absent : {P : Type 0} (q : Site) (f : FileState) → disk_of bare q ≡ Some f → P
 absent q f e = let z : None ≡ Some f = sym (nothing q) ∙ e in absurd (cc)
 
+no_value : {X P : Type 0} (name : List ℕ) (x : X) → get (empty {R = bytes_cmp}) name ≡ Some x → P
+no_value {X} name x e = let z : None ≡ Some x = sym (get-empty bytes_cmp name) ∙ e in absurd (cc)
+
 pub bare_begins : (epoch ttl : ℕ) → BeginsWritten epoch ttl
 bare_begins epoch ttl = (
   record {
@@ -81,6 +86,9 @@ bare_begins epoch ttl = (
     references = record { at = λ r e f n i k. absent (Live (file_of r e)) f k };
     parts = record { info = λ a name t f x e. absurd (cc); manifest = λ a name t f x e. absurd (cc); captured = λ a name t x e. absurd (cc); undone = λ a e. absurd (cc) };
     manifests = record { at = λ name x f g e i. absent (Info name) f i };
+    lists = record { at = λ r c. unwritten refl };
+    sets = record { at = λ t x e. no_value t x e };
+    tables = record { at = λ t. get-empty bytes_cmp t ∙ sym (ap table_in_set (get-empty bytes_cmp t)) };
   },
   record {
     files = record { live_size = λ b f e. absent (Live b) f e; archived_size = λ b f e. absent (Archived b) f e };

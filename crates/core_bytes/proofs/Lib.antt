@@ -1,8 +1,10 @@
 pub mod Drawn
 pub mod Journals
+pub mod ListsStored
 pub mod ManifestsKept
 pub mod PartsKept
 pub mod ReferencesKept
+pub mod SetsStored
 pub mod SizesKept
 pub mod TakenStay
 pub mod WrittenKept

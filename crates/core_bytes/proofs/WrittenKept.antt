@@ -28,6 +28,8 @@ use Rattle.core_sound.proofs.NamesKept.{placed_stem, piece_stem}
 use Rattle.core_sound.proofs.Tests.{cond_cases, same_bytes-true, same_bytes-self, same_base-self}
 use Rattle.core_bytes.specs.FileOf.{GivesCells, IsFileOf}
 use Rattle.core_bytes.specs.Written.{Writes, WritesFile, MovesFile, IsMade, HasFiles, HasTmps, IsTied, IsWritten}
+use Rattle.core_bytes.proofs.ListsStored.{lists_stored}
+use Rattle.core_bytes.proofs.SetsStored.{sets_stored, tables_agree}
 use Rattle.core_bytes.proofs.ManifestsKept.{manifests_kept}
 use Rattle.core_bytes.proofs.PartsKept.{parts_kept}
 use Rattle.core_bytes.proofs.ReferencesKept.{references_kept}
@@ -152,4 +154,7 @@ written_kept p s few a w g h = record {
   references = references_kept p s a w.file h.references;
   parts = parts_kept p s a w.part g h.parts;
   manifests = manifests_kept p s a h;
+  lists = lists_stored p s a h.tmps h.lists;
+  sets = sets_stored p s a h.tmps h.sets;
+  tables = tables_agree p s a h.tables;
 }

@@ -1,4 +1,5 @@
 pub mod FileOf
 pub mod Recorded
+pub mod Stored
 pub mod Written
 pub mod Laws

@@ -8,11 +8,12 @@ use Rattle.ns_tree.specs.declared.file.FileState.{FileState}
 use Rattle.core_model.specs.declared.step.Step.{Step}
 use Rattle.core_model.specs.declared.step.Step.TheVariants as step
 use Rattle.core_model.specs.declared.targets.MoveFrom.TheVariants.{StagedBulk}
-use Rattle.core_model.specs.Disk.{Bases, Disk, tmps_of, live_of, archived_of, infos_of, manifests_of, work_infos_of, work_manifests_of}
+use Rattle.core_model.specs.Disk.{Bases, Disk, tmps_of, live_of, archived_of, infos_of, manifests_of, work_infos_of, work_manifests_of, lists_of, sets_of}
 use Rattle.core_model.specs.Entries.{Made, file_of, is_half, stem, IsEntryIn}
 use Rattle.core_model.specs.Site.{Staged, is_store_name}
 use Rattle.core_model.specs.State.{Parts, State, Written}
 use Rattle.core_bytes.specs.FileOf.{GivesCells, IsFileOf, IsPointer}
+use Rattle.core_bytes.specs.Stored.{HasListFiles, HasSetFiles, TablesAgree}
 use Rattle.core_bytes.specs.Recorded.{WritesPart, HasParts, HasManifests}
 use Rattle.snapshot_records.specs.declared.reference.Reference.{Reference}
 use Rattle.snapshot_records.specs.Reference.{IsReference}
@@ -70,6 +71,9 @@ pub record IsWritten (s : Parts) : Type 0 where
   pub references : HasReferences (live_of s.disk)
   pub parts : HasParts (work_infos_of s.disk) (work_manifests_of s.disk) s.parted s.captures s.plain
   pub manifests : HasManifests (infos_of s.disk) (manifests_of s.disk) s.snapshots
+  pub lists : HasListFiles (lists_of s.disk) s.lists s.plain.tables s.plans
+  pub sets : HasSetFiles (sets_of s.disk) s.sets
+  pub tables : TablesAgree s.sets s.plain.tables
 
 pub record IsWrittenState (s : State) : Type 0 where
   pub now : IsWritten s.now
