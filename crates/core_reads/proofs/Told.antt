@@ -125,8 +125,7 @@ zip_alike (m ∷ ms) (r ∷ rs) (q ∷ qs) h k = (
 
 same_manifest : (b c : List ℕ) (x y : Snapshot) → b ≡ c → IsManifestOf b x → IsManifestOf c y → (x.schema ≡ y.schema) × AllZip IsAlike x.regions y.regions
 same_manifest b c x y e p q =
-    let m : p.manifest ≡ q.manifest = OneValue-IsManifest c p.manifest q.manifest (subst (λ bytes. IsManifest bytes p.manifest) e p.message) q.message in
-    (
+    let m : p.manifest ≡ q.manifest = OneValue-IsManifest c p.manifest q.manifest (subst (λ bytes. IsManifest bytes p.manifest) e p.message) q.message in (
       sym p.of_schema ∙ ap (λ (v : Record). v.schema) m ∙ q.of_schema,
       zip_alike q.manifest.regions x.regions y.regions (subst (λ (v : Record). AllZip IsRegionOf v.regions x.regions) m p.of_regions) q.of_regions,
     )

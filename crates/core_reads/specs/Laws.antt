@@ -1,16 +1,23 @@
 -- What the tree of a store tells, each as a clause of a law.
-use Rattle.std.specs.Prelude.{◌≡◌, ℕ, List, Some, is_some}
+use Rattle.std.specs.Prelude.{◌≡◌, ℕ, List, take, Some, is_some}
 use Rattle.std.specs.FinMap.{get}
 use Rattle.std.specs.List.{AllZip}
 use Rattle.ns_tree.specs.Tree.{Tree}
 use Rattle.plain_model.specs.declared.region_key.RegionKey.{RegionKey}
+use Rattle.core_model.specs.declared.journal.JournalEntry.{JournalEntry}
+use Rattle.core_model.specs.declared.opening.Opening.{Opening}
 use Rattle.core_model.specs.declared.snapshot.CopiedRegion.{CopiedRegion}
 use Rattle.core_model.specs.declared.snapshot.Snapshot.{Snapshot}
 use Rattle.core_model.specs.Actors.{Counts}
+use Rattle.core_model.specs.Allows.{AllowsAll}
+use Rattle.core_model.specs.Opened.{opened}
+use Rattle.core_model.specs.Replay.{begun, replay}
 use Rattle.core_model.specs.Entries.{region_list}
 use Rattle.core_model.specs.State.{Parts}
 use Rattle.core_sites.specs.Shows.{Shows}
 use Rattle.core_trees.specs.Filed.{IsFiled}
+use Rattle.core_trees.specs.Trees.{HaveNames, trees_after, BeginsWith}
+use Rattle.core_bytes.specs.Laws.{WriteFrom}
 use Rattle.core_bytes.specs.Recorded.{entries_in}
 use Rattle.core_bytes.specs.Written.{IsWritten}
 
@@ -39,3 +46,23 @@ pub record IsAlike (r q : CopiedRegion) : Type 0 where
 abbrev pub TellsManifests : Tree → Parts → Parts → List ℕ → Type 0
 TellsManifests tree s o name =
     (x y : Snapshot) → IsShown tree s → IsShown tree o → get s.snapshots name ≡ Some x → get o.snapshots name ≡ Some y → (x.schema ≡ y.schema) × AllZip IsAlike x.regions y.regions
+
+-- a life: a journal of allowed entries over a store that tells its tree, whose steps write files of what they say
+pub record IsLife (o : Opening) (tree : Tree) (es : List JournalEntry) : Type 0 where
+  pub begins : BeginsWith o tree
+  pub begins_written : IsWritten (opened o)
+  pub names : HaveNames es
+  pub allowed : AllowsAll o es
+  pub writes : WriteFrom 0 (begun o) es
+
+-- the next opening, of the tree that a front of it left, has the tables that its state had: with a failed operation not done,
+-- or with it done
+abbrev pub TellsNext : Opening → Opening → Tree → List JournalEntry → ℕ → List ℕ → Type 0
+TellsNext o next tree es k table =
+    IsLife o tree es → BeginsWith next (trees_after tree (take k es)).now → IsWritten (opened next)
+    → get (replay o (take k es)).now.plain.tables table ≡ get (opened next).plain.tables table
+
+abbrev pub TellsFailed : Opening → Opening → Tree → List JournalEntry → ℕ → List ℕ → Type 0
+TellsFailed o next tree es k table =
+    IsLife o tree es → BeginsWith next (trees_after tree (take k es)).other → IsWritten (opened next)
+    → get (replay o (take k es)).other.plain.tables table ≡ get (opened next).plain.tables table

@@ -28,7 +28,7 @@ use Rattle.core_sites.specs.Shows.{Shows}
 use Rattle.core_sites.proofs.Accepted.{accepted}
 use Rattle.core_sites.proofs.Shown.{shows_by}
 use Rattle.core_trees.specs.Filed.{IsFiled, IsFiledState}
-use Rattle.core_trees.specs.Laws.{ShowsJournal, AcceptsJournal, BeginsBare}
+use Rattle.core_trees.specs.Laws.{LeadsToFiled, ShowsJournal, AcceptsJournal, BeginsBare}
 use Rattle.core_trees.specs.Trees.{HasNames, HaveNames, call_by, tree_by, tree_unless, Trees, trees_by, trees_from, AreShown, BeginsWith}
 use Rattle.core_trees.proofs.CanBeDone.{can_be_done}
 use Rattle.core_trees.proofs.FiledKept.{filed_kept}
@@ -67,11 +67,19 @@ names_front zero es h = tt
 names_front (suc k) [] h = tt
 names_front (suc k) (e ∷ es) h = (h.0, names_front k es h.1)
 
-begun_shown : (o : Opening) (tree : Tree) → BeginsWith o tree → AreShown (record { now = tree; other = tree }) (begun o)
+pub begun_shown : (o : Opening) (tree : Tree) → BeginsWith o tree → AreShown (record { now = tree; other = tree }) (begun o)
 begun_shown o tree b =
     let same : tree ≡ unwrap_or o.tree (blank o.found.places) = sym (ap (λ x. unwrap_or x (blank o.found.places)) b.told) in
     let shows : Shows tree (opened o).disk = record { files = b.files; sites = b.sites; at = λ p. ap (λ t. disk_of t p) same } in
     record { now = shows; other = shows }
+
+filed_from : (n : ℕ) (es : List JournalEntry) (s : State) → HasFew n s → AllowsFrom n s es → IsSoundState s → IsFiledState s → IsFiledState (replay_from n s es)
+filed_from n [] s w a h f = f
+filed_from n (e ∷ es) s w a h f = filed_from (n + 1) es (replay.step n s e) (few_after n e s a.0 w) a.1 (entry_kept n e s w a.0 h) (filed_entry n e s a.0 h f)
+
+pub filed_replay : (o : Opening) (es : List JournalEntry) (k : ℕ) → LeadsToFiled o es k
+unfolding replay
+filed_replay o es k h f a = filed_from 0 (take k es) (begun o) (few-begun o) (allows_front k 0 es (begun o) a) (sound-begun o h) (record { now = f; other = f })
 
 pub journal_shown : (o : Opening) (tree : Tree) (es : List JournalEntry) (k : ℕ) → ShowsJournal o tree es k
 unfolding replay

@@ -6,13 +6,14 @@ use Rattle.core_model.specs.declared.journal.JournalEntry.{JournalEntry}
 use Rattle.core_model.specs.declared.opening.Opening.{Opening}
 use Rattle.core_model.specs.declared.step.Step.{Step}
 use Rattle.core_model.specs.Allows.{Allows, AllowsAll}
+use Rattle.core_model.specs.Opened.{opened}
 use Rattle.core_model.specs.Replay.{after, replay}
 use Rattle.core_model.specs.Sound.{IsSound}
 use Rattle.core_model.specs.State.{Parts}
 use Rattle.core_sound.specs.Laws.{bare_opening}
 use Rattle.core_sites.specs.Calls.{IsAccepted}
 use Rattle.core_sites.specs.Shows.{Shows}
-use Rattle.core_trees.specs.Filed.{IsFiled}
+use Rattle.core_trees.specs.Filed.{IsFiled, IsFiledState}
 use Rattle.core_trees.specs.Trees.{HasNames, HaveNames, call_by, tree_by, trees_after, AreShown, BeginsWith}
 
 -- the store does not refuse an allowed step
@@ -25,6 +26,9 @@ ShowsStep p s tree = s.files ≤ 4_194_304 → HasNames p → Allows p s → IsS
 
 abbrev pub KeepsFiled : Step → Parts → Type 0
 KeepsFiled p s = Allows p s → IsSound s → IsFiled s → IsFiled (after p s)
+
+abbrev pub LeadsToFiled : Opening → List JournalEntry → ℕ → Type 0
+LeadsToFiled o es k = IsSound (opened o) → IsFiled (opened o) → AllowsAll o es → IsFiledState (replay o (take k es))
 
 -- each front of a journal of allowed entries leads to trees that show its states
 abbrev pub ShowsJournal : Opening → Tree → List JournalEntry → ℕ → Type 0

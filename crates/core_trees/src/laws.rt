@@ -6,7 +6,7 @@ ghost use Rattle.core_model.specs.declared.journal.JournalEntry.{JournalEntry};
 ghost use Rattle.core_model.specs.declared.opening.Opening.{Opening};
 ghost use Rattle.core_model.specs.declared.step.Step.{Step};
 ghost use Rattle.core_model.specs.State.{Parts};
-ghost use Rattle.core_trees.specs.Laws.{AcceptsStep, ShowsStep, KeepsFiled, ShowsJournal, AcceptsJournal, BeginsBare};
+ghost use Rattle.core_trees.specs.Laws.{AcceptsStep, ShowsStep, KeepsFiled, LeadsToFiled, ShowsJournal, AcceptsJournal, BeginsBare};
 
 /// A store refuses no allowed step: neither one step, nor an entry of a journal whatever failed before it.
 pub fn allowed_steps_are_accepted()
@@ -23,7 +23,8 @@ pub fn trees_show_their_states()
 {}
 
 /// No list of a region and no set of a table is newer than the newest that the state has, and the files of a snapshot stand
-/// exactly where it is complete: each allowed step keeps that.
+/// exactly where it is complete: each allowed step keeps that, and so does each front of a journal of allowed entries.
 pub fn newest_files_are_known()
-    ensures { (p : Step) (s : Parts) → KeepsFiled p s }
+    ensures steps { (p : Step) (s : Parts) → KeepsFiled p s }
+    ensures journals { (o : Opening) (es : List JournalEntry) (k : ℕ) → LeadsToFiled o es k }
 {}
