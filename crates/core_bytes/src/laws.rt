@@ -11,8 +11,7 @@ ghost use Rattle.core_bytes.specs.Laws.{KeepsWritten, LeadsToWritten, BeginsWrit
 /// whole is an HFile of what was found in it: the file at a base's place is an HFile of the base's cells, a temporary file is
 /// a file of its recipe (an HFile, a store list, or a region set), the file of a half is a reference, and the files of a
 /// complete snapshot are its description and its manifest; the newest lists and sets are what their files say, and the plain
-/// tables are those of the sets. It holds in each state, with the operations that failed done or
-/// not.
+/// tables are those of the sets. It holds in each state, with the operations that failed done or not.
 pub fn files_have_what_they_were_written_of()
     ensures steps { (p : Step) (s : Parts) → KeepsWritten p s }
     ensures journals { (o : Opening) (es : List JournalEntry) (k : ℕ) → LeadsToWritten o es k }

@@ -63,9 +63,6 @@ family_not family rest named = false_from_ne_true _ (λ e. no_dot FamilyStart fa
 pub name_not : (name rest : List ℕ) → IsSnapName name → same_bytes name (46 ∷ rest) ≡ false
 name_not name rest named = false_from_ne_true _ (λ e. no_dot NameStart name_dot named.front named.back rest (sym (same_bytes-true name (46 ∷ rest) e) ∙ named.whole) named.in_first)
 
-pub not_name : (name rest : List ℕ) → IsSnapName name → same_bytes (46 ∷ rest) name ≡ false
-not_name name rest named = false_from_ne_true _ (λ e. no_dot NameStart name_dot named.front named.back rest (same_bytes-true (46 ∷ rest) name e ∙ named.whole) named.in_first)
-
 not_encoded : (region rest : List ℕ) → IsEncoded region → same_bytes (46 ∷ rest) region ≡ false
 not_encoded region rest named = false_from_ne_true _ (λ e. no_dot_front region rest (Lacks-AllIn LowerHex 46 hex_dot region named.each) (sym (same_bytes-true (46 ∷ rest) region e)))
 
@@ -92,8 +89,8 @@ third true true c d e = ap (λ x. x && d) e
 third true false c d e = refl
 third false b c d e = refl
 
-region_first : (t u r m : List ℕ) (rest : Bool) → IsEncoded r → (same_bytes t u && (same_bytes (codes ".regions") r && rest)) ≡ false
-region_first t u r m rest n = pair (same_bytes t u) (same_bytes (codes ".regions") r) rest (not_encoded r (codes "regions") n)
+region_first : (t u r : List ℕ) (rest : Bool) → IsEncoded r → (same_bytes t u && (same_bytes (codes ".regions") r && rest)) ≡ false
+region_first t u r rest n = pair (same_bytes t u) (same_bytes (codes ".regions") r) rest (not_encoded r (codes "regions") n)
   where
     pair : (a b c : Bool) → b ≡ false → (a && (b && c)) ≡ false
     pair true b c e = ap (λ x. x && c) e
@@ -110,9 +107,9 @@ apart_paths : (p q : Spot) → IsSpelled p → IsSpelled q → goes_on (path p) 
 apart_paths (Epoch m) (Epoch n) h k = not_longer (path (Epoch m)) (path (Epoch n)) (omega arith)
 apart_paths (Tmp m) (Tmp n) h k = not_longer (path (Tmp m)) (path (Tmp n)) (omega arith)
 apart_paths (RegionSet t m) (RegionSet u n) h k = not_longer (path (RegionSet t m)) (path (RegionSet u n)) (omega arith)
-apart_paths (RegionSet t m) (StoreList u r n) h k = region_first t u r u _ k.1
-apart_paths (RegionSet t m) (Live b) h k = region_first t b.table b.region t _ k.0.region
-apart_paths (RegionSet t m) (Pointing b) h k = region_first t b.table b.region t _ k.region
+apart_paths (RegionSet t m) (StoreList u r n) h k = region_first t u r _ k.1
+apart_paths (RegionSet t m) (Live b) h k = region_first t b.table b.region _ k.0.region
+apart_paths (RegionSet t m) (Pointing b) h k = region_first t b.table b.region _ k.region
 apart_paths (StoreList t r m) (RegionSet u n) h k = not_longer (path (StoreList t r m)) (path (RegionSet u n)) (omega arith)
 apart_paths (StoreList t r m) (StoreList u q n) h k = not_longer (path (StoreList t r m)) (path (StoreList u q n)) (omega arith)
 apart_paths (StoreList t r m) (Live b) h k = not_longer (path (StoreList t r m)) (path (Live b)) (omega arith)

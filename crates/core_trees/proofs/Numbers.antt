@@ -28,10 +28,6 @@ other_number true true c e = e
 other_number true false c e = refl
 other_number false b c e = refl
 
-pub other_count : (a c : Bool) → c ≡ false → (a && c) ≡ false
-other_count true c e = e
-other_count false c e = refl
-
 pub none_left : {X : Type 0} (b : Bool) (o : Option X) → o ≡ None → cond b None o ≡ None
 none_left true o e = refl
 none_left false o e = e
