@@ -1,0 +1,4 @@
+pub mod First
+pub mod Valued
+pub mod Values
+pub mod Writes

@@ -1,0 +1,6 @@
+pub mod Changes
+pub mod Filled
+pub mod Lends
+pub mod LendsMap
+pub mod Order
+pub mod Values
