@@ -1,5 +1,6 @@
 pub mod Changes
 pub mod Filled
+pub mod Keys
 pub mod Lends
 pub mod LendsMap
 pub mod Order

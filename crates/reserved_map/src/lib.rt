@@ -17,7 +17,7 @@ mod tests {
     #[test]
     fn changes_what_was_reserved(rt: HostRuntime) -> Result<(), Fail> {
         let mut map = ReservedMap::new(rt.alloc());
-        map.reserve(&3u64)?;
+        map.reserve(&3u32)?;
         assert!(rt; !map.contains_key(&3));
         assert_eq!(rt; map.put(&3, 30u8), None);
         assert_eq!(rt; map.put(&3, 31), Some(30));
@@ -35,7 +35,7 @@ mod tests {
     #[test]
     fn goes_on_in_order(rt: HostRuntime) -> Result<(), Fail> {
         let mut map = ReservedMap::new(rt.alloc());
-        map.reserve(&5u64)?;
+        map.reserve(&5u32)?;
         map.put(&5, 'e');
         map.reserve(&9)?;
         map.put(&9, 'i');
@@ -54,10 +54,11 @@ mod tests {
 
     #[test]
     fn keeps_the_first_of_two(rt: HostRuntime) -> Result<(), Fail> {
-        let pairs = vec![in rt.alloc(); (7u64, 'a'), (2, 'b'), (7, 'c')]?;
+        let pairs = vec![in rt.alloc(); (7u32, 'a'), (2, 'b'), (7, 'c')]?;
         let map = ReservedMap::from_pairs(rt.alloc(), pairs)?;
         assert_eq!(rt; map.get(&7), Some(&'a'));
         assert_eq!(rt; map.first_from(Bound::Unbounded), Some((&2, &'b')));
+        assert_eq!(rt; map.keys(rt.alloc())?.as_slice(), [2, 7].as_slice());
         Ok(())
     }
 }

@@ -15,7 +15,7 @@ use crate::ExactKey;
 use crate::places::{
     add_place, drop_vacant, empty_place, fill_place, first_value, remove_place, value_mut,
 };
-use hb_wire::{Copied, NoMemory};
+use hb_wire::{Copied, Items, NoMemory};
 use std::alloc::Global;
 use std::collections::BTreeMap;
 use std::ops::Bound;
@@ -178,5 +178,20 @@ impl<K: ExactKey, V: Drop> ReservedMap<K, V> {
         ensures { option_map (λ e. (e.0.now, e.1.now)) result ≡ first_from K.cmp (bound_map (λ k. k.now) start.entry) (filled K.cmp self.now) }
     {
         first_value(&self.places, start)
+    }
+
+    /// The keys that have a value, in order.
+    pub fn keys(&self, alloc: Global) -> Result<Items<K>, NoMemory>
+    where
+        K: Copied,
+        ensures { IfOk result (λ keys. keys ≡ map.keys (filled K.cmp self.now)) }
+    {
+        let mut keys = Vec::with_capacity(alloc, self.places.len())?;
+        for (key, place) in &self.places {
+            if place.is_some() {
+                keys.push(key.copy()?)?;
+            }
+        }
+        Ok(Items::from_vec(keys))
     }
 }
