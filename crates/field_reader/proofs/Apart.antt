@@ -20,8 +20,8 @@ abbrev pub ValueExcludes : {V : Type 0} → (Part → V → Type 0) → (Part �
 ValueExcludes {V} spells faults = (x : Part) (at inside : ℕ) (e : RecordError) (v : V) → faults x at inside e → spells x v → e ≡ NoMemory
 
 -- a field with a fault is among none that spell something
-abbrev pub FieldExcludes : {S : Type 0} → (List (ℕ × Part) → S → Type 0) → (ℕ × Part → ℕ → ℕ → RecordError → Type 0) → Type 0
-FieldExcludes {S} rules wrong = (before others : List (ℕ × Part)) (p : ℕ × Part) (at inside : ℕ) (e : RecordError) (values : S) → wrong p at inside e → rules (before ++ p ∷ others) values → e ≡ NoMemory
+abbrev pub FieldExcludes : {S : Type 0} → (List (ℕ × Part) → S → Type 0) → (List (ℕ × Part) → ℕ × Part → ℕ → ℕ → RecordError → Type 0) → Type 0
+FieldExcludes {S} rules wrong = (before others : List (ℕ × Part)) (p : ℕ × Part) (at inside : ℕ) (e : RecordError) (values : S) → wrong before p at inside e → rules (before ++ p ∷ others) values → e ≡ NoMemory
 
 pub Whole-excludes : {V : Type 0} (spells : Part → V → Type 0) → ValueExcludes spells (Whole spells)
 Whole-excludes spells x at inside (BadRecord place) v fault is = absurd (fault.1 v is)
@@ -35,7 +35,7 @@ Within-excludes spells fault apart (eight n) at inside e v told is = absurd is
 Within-excludes spells fault apart (four n) at inside e v told is = absurd is
 Within-excludes spells fault apart (text bytes) at inside e v told is = apart bytes inside e v told is
 
-values_of-append : (id : ℕ) (xs ys : List (ℕ × Part)) → values_of id (xs ++ ys) ≡ values_of id xs ++ values_of id ys
+pub values_of-append : (id : ℕ) (xs ys : List (ℕ × Part)) → values_of id (xs ++ ys) ≡ values_of id xs ++ values_of id ys
 values_of-append id [] ys = refl
 values_of-append id (q ∷ xs) ys =
     let rest = values_of-append id xs ys in
@@ -44,7 +44,7 @@ values_of-append id (q ∷ xs) ys =
       | false ↦ rest
     ]
 
-Spell-here : {V : Type 0} (spells : Part → V → Type 0) (xs : List Part) (x : Part) (ys : List Part) (vs : List V) → Spell spells (xs ++ x ∷ ys) vs → (v : V) × spells x v
+pub Spell-here : {V : Type 0} (spells : Part → V → Type 0) (xs : List Part) (x : Part) (ys : List Part) (vs : List V) → Spell spells (xs ++ x ∷ ys) vs → (v : V) × spells x v
 Spell-here spells [] x ys [] each = absurd each
 Spell-here spells [] x ys (v ∷ vs) each = (v, each.0)
 Spell-here spells (y ∷ xs) x ys [] each = absurd each
@@ -64,14 +64,14 @@ wrong_here spells faults id before others p at inside (MissingField n) vs apart 
     let one = one_of spells id before others p vs wrong.0 each in apart p.1 at inside (MissingField n) one.0 wrong.1 one.1
 wrong_here spells faults id before others p at inside NoMemory vs apart wrong each = refl
 
-pub Last-excludes : {V : Type 0} (spells : Part → V → Type 0) (faults : Part → ℕ → ℕ → RecordError → Type 0) (id : ℕ) → ValueExcludes spells faults → FieldExcludes (Last spells id) (Wrong id faults)
+pub Last-excludes : {V : Type 0} (spells : Part → V → Type 0) (faults : Part → ℕ → ℕ → RecordError → Type 0) (id : ℕ) → ValueExcludes spells faults → FieldExcludes (Last spells id) (λ before. Wrong id faults)
 Last-excludes spells faults id apart before others p at inside e values wrong last = wrong_here spells faults id before others p at inside e last.all apart wrong last.each
 
-pub Repeated-excludes : {V : Type 0} (spells : Part → V → Type 0) (faults : Part → ℕ → ℕ → RecordError → Type 0) (id : ℕ) → ValueExcludes spells faults → FieldExcludes (Repeated spells id) (Wrong id faults)
+pub Repeated-excludes : {V : Type 0} (spells : Part → V → Type 0) (faults : Part → ℕ → ℕ → RecordError → Type 0) (id : ℕ) → ValueExcludes spells faults → FieldExcludes (Repeated spells id) (λ before. Wrong id faults)
 Repeated-excludes spells faults id apart before others p at inside e values wrong all = wrong_here spells faults id before others p at inside e values apart wrong all.each
 
-pub &-excludes : {A B : Type 0} (f : List (ℕ × Part) → A → Type 0) (g : List (ℕ × Part) → B → Type 0) (u w : ℕ × Part → ℕ → ℕ → RecordError → Type 0)
-    → FieldExcludes f u → FieldExcludes g w → FieldExcludes (f & g) (u or w)
+pub &-excludes : {A B : Type 0} (f : List (ℕ × Part) → A → Type 0) (g : List (ℕ × Part) → B → Type 0) (u w : List (ℕ × Part) → ℕ × Part → ℕ → ℕ → RecordError → Type 0)
+    → FieldExcludes f u → FieldExcludes g w → FieldExcludes (f & g) (λ before. u before or w before)
 &-excludes f g u w first second before others p at inside e values wrong both = elim wrong [
   | inl here ↦ first before others p at inside e values.0 here both.0
   | inr there ↦ second before others p at inside e values.1 there both.1
@@ -81,8 +81,8 @@ some_front : (others : List (ℕ × Part)) (rest : List ℕ) → AreParts others
 some_front [] rest fit is some none = some is
 some_front (p ∷ others) rest fit is some none = none p (message_bytes others) fit.0 is
 
-fields_apart : {S : Type 0} (rules : List (ℕ × Part) → S → Type 0) (wrong : ℕ × Part → ℕ → ℕ → RecordError → Type 0) (bytes : List ℕ) (place : ℕ) (e : RecordError) (parts : List (ℕ × Part)) (values : S)
-    → FieldExcludes rules wrong → FieldsFault rules (λ before. wrong) bytes place e → IsMessage bytes parts → rules parts values → e ≡ NoMemory
+fields_apart : {S : Type 0} (rules : List (ℕ × Part) → S → Type 0) (wrong : List (ℕ × Part) → ℕ × Part → ℕ → ℕ → RecordError → Type 0) (bytes : List ℕ) (place : ℕ) (e : RecordError) (parts : List (ℕ × Part)) (values : S)
+    → FieldExcludes rules wrong → FieldsFault rules wrong bytes place e → IsMessage bytes parts → rules parts values → e ≡ NoMemory
 fields_apart rules wrong bytes place _ parts values apart (cut before vs rest fit spelled whole some none) message is =
     let on = GoesOn-message_bytes before parts rest fit message.0 (sym whole ∙ message.1) in
     absurd (some_front on.others rest on.fit on.behind some none)
@@ -98,8 +98,8 @@ ok_or_err : {V : Type 0} (v : V) (u : Unmade) (r : Result V Unmade) → r ≡ Ok
 ok_or_err v u r a b = cc
 
 -- bytes with a fault are no record
-pub RecordFault-excludes : {S V : Type 0} (rules : List (ℕ × Part) → S → Type 0) (wrong : ℕ × Part → ℕ → ℕ → RecordError → Type 0) (made : S → Result V Unmade) → OneValue rules → FieldExcludes rules wrong
-    → (bytes : List ℕ) (place : ℕ) (e : RecordError) (v : V) → RecordFault rules (λ before. wrong) made bytes place e → IsRecord rules made bytes v → e ≡ NoMemory
+pub RecordFault-excludes : {S V : Type 0} (rules : List (ℕ × Part) → S → Type 0) (wrong : List (ℕ × Part) → ℕ × Part → ℕ → ℕ → RecordError → Type 0) (made : S → Result V Unmade) → OneValue rules → FieldExcludes rules wrong
+    → (bytes : List ℕ) (place : ℕ) (e : RecordError) (v : V) → RecordFault rules wrong made bytes place e → IsRecord rules made bytes v → e ≡ NoMemory
 RecordFault-excludes rules wrong made one apart bytes place _ v (of_fields e fault) is = fields_apart rules wrong bytes place e is.parts is.values apart fault is.message is.spelled
 RecordFault-excludes rules wrong made one apart bytes place _ v (missing parts values id message spelled lacks) is =
     let same = same_parts bytes parts is.parts message is.message in

@@ -24,10 +24,10 @@ half_same true false e = cc
 half_same false true e = cc
 half_same false false e = refl
 
-OneValue-IsHalf : OneValue IsHalf
+pub OneValue-IsHalf : OneValue IsHalf
 OneValue-IsHalf x v w a b = half_same v w (sym a ∙ b)
 
-OneValue-IsReferenceMessage : OneValue IsReferenceMessage
+pub OneValue-IsReferenceMessage : OneValue IsReferenceMessage
 OneValue-IsReferenceMessage = OneValue-IsRecord reference_rules reference_made
     (OneValue-& (Last (Text IsSplitRow) 1) (Last IsHalf 2) (OneValue-Last (Text IsSplitRow) 1 (OneValue-Text IsSplitRow)) (OneValue-Last IsHalf 2 OneValue-IsHalf))
 
@@ -44,13 +44,13 @@ flush_same true false e = cc
 flush_same false true e = cc
 flush_same false false e = refl
 
-OneValue-IsFlush : OneValue IsFlush
+pub OneValue-IsFlush : OneValue IsFlush
 OneValue-IsFlush x v w a b = flush_same v w (sym a ∙ b)
 
-OneValue-AnyNumber : (id : ℕ) → OneValue (Last AnyNumber id)
+pub OneValue-AnyNumber : (id : ℕ) → OneValue (Last AnyNumber id)
 OneValue-AnyNumber id = OneValue-Last AnyNumber id (OneValue-Number (λ n. Unit {0}))
 
-OneValue-LastText : (grammar : List ℕ → Type 0) (id : ℕ) → OneValue (Last (Text grammar) id)
+pub OneValue-LastText : (grammar : List ℕ → Type 0) (id : ℕ) → OneValue (Last (Text grammar) id)
 OneValue-LastText grammar id = OneValue-Last (Text grammar) id (OneValue-Text grammar)
 
 pub OneValue-IsSnapshotInfo : OneValue IsSnapshotInfo
@@ -62,13 +62,13 @@ OneValue-IsSnapshotInfo = OneValue-IsRecord info_rules info_made
 
 -- ---- regions
 
-OneValue-LastInner : {V : Type 0} (spells : List ℕ → V → Type 0) (id : ℕ) → OneValue spells → OneValue (Last (Inner spells) id)
+pub OneValue-LastInner : {V : Type 0} (spells : List ℕ → V → Type 0) (id : ℕ) → OneValue spells → OneValue (Last (Inner spells) id)
 OneValue-LastInner spells id one = OneValue-Last (Inner spells) id (OneValue-Inner spells one)
 
-OneValue-RepeatedInner : {V : Type 0} (spells : List ℕ → V → Type 0) (id : ℕ) → OneValue spells → OneValue (Repeated (Inner spells) id)
+pub OneValue-RepeatedInner : {V : Type 0} (spells : List ℕ → V → Type 0) (id : ℕ) → OneValue spells → OneValue (Repeated (Inner spells) id)
 OneValue-RepeatedInner spells id one = OneValue-Repeated (Inner spells) id (OneValue-Inner spells one)
 
-OneValue-IsTableMessage : OneValue IsTableMessage
+pub OneValue-IsTableMessage : OneValue IsTableMessage
 OneValue-IsTableMessage = OneValue-IsRecord table_rules table_made
     (OneValue-& (Last (Text IsDefault) 1) (Last (Text IsTableName) 2) (OneValue-LastText IsDefault 1) (OneValue-LastText IsTableName 2))
 
@@ -80,7 +80,7 @@ OneValue-IsRegionInfo = OneValue-IsRecord region_rules region_made
 
 -- ---- schemas
 
-OneValue-TellsVersions : (attribute : List ℕ × List ℕ) (v w : Option ℕ) → TellsVersions attribute v → TellsVersions attribute w → v ≡ w
+pub OneValue-TellsVersions : (attribute : List ℕ × List ℕ) (v w : Option ℕ) → TellsVersions attribute v → TellsVersions attribute w → v ≡ w
 OneValue-TellsVersions attribute None None a b = refl
 OneValue-TellsVersions attribute None (Some n) a b = absurd (a b.0)
 OneValue-TellsVersions attribute (Some m) None a b = absurd (b a.0)
@@ -89,38 +89,38 @@ OneValue-TellsVersions attribute (Some m) (Some n) a b =
     let small' : n ≤ 2147483647 = b.3 in
     ap (λ (k : ℕ). Some k) (decimal_injective m n (omega arith) (omega arith) (sym a.1 ∙ b.1))
 
-OneValue-IsAttribute : OneValue IsAttribute
+pub OneValue-IsAttribute : OneValue IsAttribute
 OneValue-IsAttribute bytes v w a b =
     let one = OneValue-IsRecord attribute_rules attribute_made (OneValue-& (Last AnyText 1) (Last AnyText 2) (OneValue-LastText (λ t. Unit {0}) 1) (OneValue-LastText (λ t. Unit {0}) 2)) in
     let same = one bytes a.attribute b.attribute a.message b.message in
     OneValue-TellsVersions b.attribute v w (subst (λ (x : List ℕ × List ℕ). TellsVersions x v) same a.tells) b.tells
 
-OneValue-IsFamilySchema : OneValue IsFamilySchema
+pub OneValue-IsFamilySchema : OneValue IsFamilySchema
 OneValue-IsFamilySchema = OneValue-IsRecord family_rules family_made
     (OneValue-& (Last (Text IsFamilyName) 1) (Repeated (Inner IsAttribute) 2) (OneValue-LastText IsFamilyName 1) (OneValue-RepeatedInner IsAttribute 2 OneValue-IsAttribute))
 
-OneValue-IsTableSchema : OneValue IsTableSchema
+pub OneValue-IsTableSchema : OneValue IsTableSchema
 OneValue-IsTableSchema = OneValue-IsRecord schema_rules schema_made
     (OneValue-& (Last (Inner IsTableMessage) 1) (Repeated (Inner IsFamilySchema) 3) (OneValue-LastInner IsTableMessage 1 OneValue-IsTableMessage) (OneValue-RepeatedInner IsFamilySchema 3 OneValue-IsFamilySchema))
 
 -- ---- files and manifests
 
-OneValue-IsEntryName : OneValue IsEntryName
+pub OneValue-IsEntryName : OneValue IsEntryName
 OneValue-IsEntryName bytes (v, true) (w, true) a b = let same = a.0 ∙ sym b.0 in λ i. (same i, true)
 OneValue-IsEntryName bytes (v, true) (w, false) a b = absurd (b.2 a.1)
 OneValue-IsEntryName bytes (v, false) (w, true) a b = absurd (a.2 b.1)
 OneValue-IsEntryName bytes (v, false) (w, false) a b = let same = a.0 ∙ sym b.0 in λ i. (same i, false)
 
-OneValue-IsFile : OneValue IsFile
+pub OneValue-IsFile : OneValue IsFile
 OneValue-IsFile = OneValue-IsRecord file_rules file_made
     (OneValue-& (Last (Inner IsEntryName) 1) (Last (Inner IsReferenceMessage) 2 & Last AnyNumber 3) (OneValue-LastInner IsEntryName 1 OneValue-IsEntryName)
     (OneValue-& (Last (Inner IsReferenceMessage) 2) (Last AnyNumber 3) (OneValue-LastInner IsReferenceMessage 2 OneValue-IsReferenceMessage) (OneValue-AnyNumber 3)))
 
-OneValue-IsFamilyFiles : OneValue IsFamilyFiles
+pub OneValue-IsFamilyFiles : OneValue IsFamilyFiles
 OneValue-IsFamilyFiles = OneValue-IsRecord files_rules files_made
     (OneValue-& (Last (Text IsFamilyName) 1) (Repeated (Inner IsFile) 2) (OneValue-LastText IsFamilyName 1) (OneValue-RepeatedInner IsFile 2 OneValue-IsFile))
 
-OneValue-IsRegionManifest : OneValue IsRegionManifest
+pub OneValue-IsRegionManifest : OneValue IsRegionManifest
 OneValue-IsRegionManifest = OneValue-IsRecord part_rules part_made
     (OneValue-& (Last AnyNumber 1) (Last (Inner IsRegionInfo) 2 & (Rising (Inner IsFamilyFiles) 3 & Last (Number IsSeq) 100)) (OneValue-AnyNumber 1)
     (OneValue-& (Last (Inner IsRegionInfo) 2) (Rising (Inner IsFamilyFiles) 3 & Last (Number IsSeq) 100) (OneValue-LastInner IsRegionInfo 2 OneValue-IsRegionInfo)

@@ -15,6 +15,7 @@ use Rattle.field_rules.specs.Rules.{Last, Repeated, ◌&◌}
 use Rattle.field_rules.specs.Record.{◌>>=◌, need, IsRecord}
 use Rattle.hb_names.specs.FamilyName.{IsFamilyName}
 use Rattle.hb_records.specs.declared.table_schema.TableSchema.{TableSchema}
+use Rattle.snapshot_records.specs.declared.manifest.TheConstants.{MAX_VERSIONS}
 use Rattle.snapshot_records.specs.TableMessage.{IsTableMessage}
 
 abbrev pub attribute_rules : List (ℕ × Part) → Option (List ℕ) × Option (List ℕ) → Type 0
@@ -29,7 +30,7 @@ attribute_made values = do
 abbrev pub TellsVersions : List ℕ × List ℕ → Option ℕ → Type 0
 TellsVersions attribute None = attribute.0 ≢ codes "VERSIONS"
 TellsVersions attribute (Some versions) =
-    (attribute.0 ≡ codes "VERSIONS") × (attribute.1 ≡ decimal versions) × (1 ≤ versions) × (versions ≤ 2_147_483_647)
+    (attribute.0 ≡ codes "VERSIONS") × (attribute.1 ≡ decimal versions) × (1 ≤ versions) × (versions ≤ MAX_VERSIONS)
 
 pub record IsAttribute (bytes : List ℕ) (versions : Option ℕ) : Type 0 where
   pub attribute : List ℕ × List ℕ

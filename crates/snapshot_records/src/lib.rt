@@ -7,6 +7,6 @@ pub mod reference;
 pub mod snapshot_info;
 
 pub use laws::records_told;
-pub use manifest::{Manifest, RegionManifest};
+pub use manifest::{MAX_VERSIONS, Manifest, RegionManifest};
 pub use reference::Reference;
 pub use snapshot_info::SnapshotInfo;

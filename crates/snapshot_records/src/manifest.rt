@@ -5,6 +5,9 @@ use hb_names::FamilyName;
 use hb_records::{RegionInfo, TableSchema};
 use hb_wire::{Blob, Copied, Items, NoMemory};
 
+/// How many versions of a cell a family shows at most.
+pub const MAX_VERSIONS: u32 = 2_147_483_647;
+
 /// A region in a snapshot: the region, the greatest sequence number of its cells, and its files, each with its family,
 /// its name, the half that it is, if it is one, and its size in bytes. Source: HBase `SnapshotRegionManifest`.
 #[derive(Debug, Drop, PartialEq, Eq)]

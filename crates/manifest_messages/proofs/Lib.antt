@@ -1,0 +1,4 @@
+pub mod Nevers
+pub mod Rises
+pub mod Rising
+pub mod Told
