@@ -1,5 +1,5 @@
 -- No field of these messages is needless, but the reference of a file that is no half.
-use Rattle.std.proofs.Common.{◌≡◌, ◌≢◌, ℕ, ◌+◌, Bool, true, false, eqb, cond, List, [], ◌∷◌, length, Option, Some, None, Result, Ok, Err, ◌⊎◌, inl, refl, sym, ap, subst, ◌∙◌}
+use Rattle.std.proofs.Common.{◌≡◌, ◌≢◌, ℕ, ◌+◌, true, false, eqb, cond, List, [], ◌∷◌, length, Option, Some, None, Result, Ok, Err, ◌⊎◌, inl, refl, ap, subst}
 use Rattle.std.specs.Prelude.{IfErr}
 use Rattle.wire_fields.specs.Fields.{Part, field_bytes}
 use Rattle.wire_fields.specs.Message.{later}
@@ -7,7 +7,6 @@ use Rattle.field_rules.specs.declared.unmade.Unmade.TheVariants.{Needless}
 use Rattle.field_rules.specs.Rules.{values_of, Spell, last_of, Last}
 use Rattle.field_reader.specs.declared.fault.RecordError.{RecordError}
 use Rattle.field_reader.specs.Faults.{last_place, here_place}
-use Rattle.hb_records.specs.declared.region_info.RegionInfo.{RegionInfo}
 use Rattle.hb_records.specs.declared.table_schema.TableSchema.{TableSchema}
 use Rattle.snapshot_records.specs.declared.manifest.RegionManifest.{RegionManifest}
 use Rattle.snapshot_records.specs.declared.reference.Reference.{Reference}

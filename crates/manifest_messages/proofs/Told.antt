@@ -1,19 +1,18 @@
 -- Bytes with a fault are no manifest.
-use Rattle.std.proofs.Common.{◌≡◌, ℕ, ◌⊎◌, Bool, cond, List, [], ◌∷◌, ◌++◌, Option, refl, sym, ap, subst, inl, inr, append_assoc}
+use Rattle.std.proofs.Common.{◌≡◌, ℕ, Bool, cond, List, [], ◌∷◌, ◌++◌, refl, sym, ap, subst, inl, inr, append_assoc}
 use Rattle.std.proofs.lemmas.Bool.{eq-eqb}
 use Rattle.std.specs.Ordering.{nat_cmp, on}
 use Rattle.std.specs.Cmp.Lexicographic.{slice_cmp}
 use Rattle.wire_fields.specs.Fields.{Part, number, eight, four, text}
 use Rattle.field_rules.specs.Values.{AnyNumber, AnyText, Number, Inner, Text, OneValue}
 use Rattle.field_rules.specs.Rules.{values_of, Spell, Last, Repeated, Rising, ◌&◌}
-use Rattle.field_rules.proofs.OneValues.{OneValue-Number, OneValue-Inner, OneValue-Repeated, OneValue-Last, OneValue-Rising, OneValue-&, OneValue-IsRecord}
+use Rattle.field_rules.proofs.OneValues.{OneValue-Number, OneValue-Inner, OneValue-Last, OneValue-Rising, OneValue-&, OneValue-IsRecord}
 use Rattle.field_reader.specs.declared.fault.RecordError.{RecordError}
 use Rattle.field_reader.specs.declared.fault.RecordError.TheVariants.{BadRecord, MissingField, NoMemory}
-use Rattle.field_reader.specs.Faults.{IsAt, Whole, Within, Wrong, ◌or◌, Excludes}
+use Rattle.field_reader.specs.Faults.{Whole, Within, Wrong, ◌or◌, Excludes}
 use Rattle.field_reader.proofs.Apart.{FieldExcludes, ValueExcludes, Whole-excludes, Within-excludes, Last-excludes, Repeated-excludes, &-excludes, RecordFault-excludes, values_of-append}
 use Rattle.hb_names.specs.FamilyName.{IsFamilyName}
 use Rattle.hb_records.specs.declared.table_schema.TableSchema.{TableSchema}
-use Rattle.snapshot_records.specs.declared.manifest.Manifest.{Manifest}
 use Rattle.snapshot_records.specs.declared.manifest.RegionManifest.{RegionManifest}
 use Rattle.snapshot_records.specs.Reference.{IsReferenceMessage}
 use Rattle.snapshot_records.specs.TableMessage.{IsTableMessage}
@@ -24,7 +23,7 @@ use Rattle.snapshot_records.specs.Manifest.{IsSeq, part_rules, part_made, IsRegi
 use Rattle.snapshot_records.proofs.Told.{OneValue-LastInner, OneValue-RepeatedInner, OneValue-AnyNumber, OneValue-LastText, OneValue-IsTableMessage, OneValue-IsRegionInfo, OneValue-IsReferenceMessage, OneValue-IsAttribute, OneValue-IsFamilySchema, OneValue-IsTableSchema, OneValue-IsEntryName, OneValue-IsFile, OneValue-IsFamilyFiles, OneValue-IsRegionManifest}
 use Rattle.snapshot_messages.specs.Faults.{IsReferenceMessageFault, IsTableMessageFault, IsRegionInfoFault}
 use Rattle.snapshot_messages.proofs.Told.{no_text, no_number, no_reference, no_table, no_region}
-use Rattle.manifest_messages.specs.Faults.{IsPair, IsPairFault, IsAttributeFault, TellsNone, IsFamilySchemaFault, IsTableSchemaFault, IsFileFault, IsFamilyFilesFault, AreRising, WrongFamily, wrong_part, IsRegionManifestFault, IsManifestFault}
+use Rattle.manifest_messages.specs.Faults.{IsPair, IsPairFault, IsAttributeFault, IsFamilySchemaFault, IsTableSchemaFault, IsFileFault, IsFamilyFilesFault, AreRising, WrongFamily, wrong_part, IsRegionManifestFault, IsManifestFault}
 use Rattle.manifest_messages.proofs.Rises.{rising-front}
 
 -- a last field that is a message, and a repeated one

@@ -1,6 +1,6 @@
 -- Where bytes are no manifest: of its messages the first field, in the order of the bytes, that is not in its grammar,
 -- or what is missing at the end of one.
-use Rattle.std.specs.Prelude.{◌≡◌, ◌⊎◌, ℕ, List, ◌∷◌, [], ◌++◌, Option, Result, Ok, Err}
+use Rattle.std.specs.Prelude.{◌≡◌, ◌⊎◌, ℕ, List, ◌∷◌, [], ◌++◌, Option}
 use Rattle.std.specs.Ordering.{nat_cmp, on}
 use Rattle.std.specs.List.Sorted.{IsStrictlySortedBy}
 use Rattle.std.specs.Cmp.Lexicographic.{slice_cmp}

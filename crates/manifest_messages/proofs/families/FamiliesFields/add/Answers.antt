@@ -1,5 +1,4 @@
-use Rattle.std.proofs.Common.{refl, inl, inr}
-use Rattle.field_reader.proofs.Pushes.{Wrong-value}
+use Rattle.std.proofs.Common.{refl, inr}
 use Rattle.manifest_messages.proofs.Rising.{Rising-more, Rising-same, no_rise, not_true}
 use Rattle.manifest_messages.proofs.families.FamiliesFields.add.Goals as goal
 
