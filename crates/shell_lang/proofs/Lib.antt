@@ -1,3 +1,2 @@
 pub mod TextLemmas
-pub mod LineLemmas
-pub mod ScriptLemmas
+pub mod CreateLemmas

@@ -1,5 +1,5 @@
 -- What the lines of the language ask for, as functions of their arguments.
-use Rattle.std.specs.Prelude.{ℕ, Bool, true, false, cond, List, [], ◌∷◌, Option, None, unwrap_or}
+use Rattle.std.specs.Prelude.{ℕ, true, false, cond, List, [], ◌∷◌, Option, unwrap_or}
 use Rattle.hb_cell.specs.declared.kind.Kind.{Kind}
 use Rattle.hb_cell.specs.declared.kind.Kind.TheVariants as cell
 use Rattle.plain_model.specs.declared.put_cell.PutCell.{PutCell}

@@ -1,3 +1,3 @@
+pub mod Create
 pub mod Jobs
 pub mod Line
-pub mod Script

@@ -1,9 +1,9 @@
 //! What a line of each kind asks for.
-ghost use Rattle.std.specs.Prelude.{◌≡◌, ◌≢◌, IfOk};
+ghost use Rattle.std.specs.Prelude.{◌≡◌, IfOk};
 ghost use Rattle.shell_line.specs.Line.{IsArguments, arguments};
-ghost use Rattle.shell_line.specs.declared.line_kind.LineKind.TheVariants as kinds;
 ghost use Rattle.shell_lang.specs.Jobs.{job_of};
 
+use crate::create::create;
 use crate::delete::delete;
 use crate::put::put;
 use crate::short::{bulk, clone_of, snapshot, snapshot_alone, split, table_alone};
@@ -12,14 +12,13 @@ use plain_model::Job;
 use shell_line::LineKind;
 use std::alloc::Global;
 
-/// What a line of a kind that creates no table asks for, by its arguments.
+/// What a line of a kind asks for, by its arguments.
 pub fn read_job(alloc: Global, kind: LineKind, bytes: &[u8]) -> Result<Job, NoMemory>
-    requires other { kind ≢ kinds.Create }
-    requires spelled { IsArguments (arguments kind) bytes.now }
+    requires { IsArguments (arguments kind) bytes.now }
     ensures { IfOk result (λ job. job ≡ job_of kind bytes.now) }
 {
     match kind {
-        LineKind::Create => unreachable!(),
+        LineKind::Create => create(alloc, bytes),
         LineKind::Put => put(alloc, bytes),
         LineKind::Delete => delete(alloc, bytes),
         LineKind::Scan => Ok(Job::Scan {

@@ -1,10 +1,11 @@
-//! What lines ask for, and the places of bad ones.
-use crate::{ScriptError, parse_lines};
+//! What lines ask for.
+use crate::read_line;
 use shell_line::LineKind;
 use std::alloc::Global;
 use std::test::Fail;
 
-const KINDS: [LineKind; 18] = [
+const KINDS: [LineKind; 19] = [
+    LineKind::Create,
     LineKind::Put,
     LineKind::Delete,
     LineKind::Scan,
@@ -25,24 +26,29 @@ const KINDS: [LineKind; 18] = [
     LineKind::CleanerChoreRun,
 ];
 
-// The job of a script of one line, as text.
+// The job of a line, as text.
 fn asked(alloc: Global, line: &[u8]) -> Result<String, Fail> {
-    if line.len() > 1000 {
-        return Ok(String::from_str(alloc, "long")?);
-    }
-    let jobs = match parse_lines(alloc, &KINDS, line) {
-        Ok(jobs) => jobs,
-        Err(_) => return Ok(String::from_str(alloc, "bad")?),
-    };
-    match jobs.get(0) {
-        Some(numbered) => Ok(format!(in alloc; "{:?}", numbered.job)?),
-        None => Ok(String::from_str(alloc, "none")?),
+    match read_line(alloc, &KINDS, line) {
+        Ok(job) => Ok(format!(in alloc; "{:?}", job)?),
+        Err(_) => Ok(String::from_str(alloc, "bad")?),
     }
 }
 
 #[test]
 fn jobs(rt: HostRuntime) -> Result<(), Fail> {
-    let table: [(&[u8], &str); 13] = [
+    let table: [(&[u8], &str); 16] = [
+        (
+            b"create 't','f'",
+            "Create { table: TableName { text: Blob { bytes: [116] } }, families: Items { items: [FamilyName { text: Blob { bytes: [102] } }] }, versions: 1, splits: Items { items: [] } }",
+        ),
+        (
+            b"create 't' , 'f', 'g' versions 30 splits 'm','\\xff'",
+            "Create { table: TableName { text: Blob { bytes: [116] } }, families: Items { items: [FamilyName { text: Blob { bytes: [102] } }, FamilyName { text: Blob { bytes: [103] } }] }, versions: 30, splits: Items { items: [Blob { bytes: [109] }, Blob { bytes: [255] }] } }",
+        ),
+        (
+            b"create 't','1' splits '2'",
+            "Create { table: TableName { text: Blob { bytes: [116] } }, families: Items { items: [FamilyName { text: Blob { bytes: [49] } }] }, versions: 1, splits: Items { items: [Blob { bytes: [50] }] } }",
+        ),
         (
             b"put 't','\\x00r','f:q:s','v\\x5c',7",
             "Put { table: TableName { text: Blob { bytes: [116] } }, cell: PutCell { row: Blob { bytes: [0, 114] }, family: FamilyName { text: Blob { bytes: [102] } }, qualifier: Blob { bytes: [113, 58, 115] }, ts: Some(7), kind: Put, value: Blob { bytes: [118, 92] } } }",
@@ -93,50 +99,6 @@ fn jobs(rt: HostRuntime) -> Result<(), Fail> {
     for (line, want) in table {
         let found = asked(rt.alloc(), line)?;
         assert_eq!(rt; found.as_str(), want);
-    }
-    Ok(())
-}
-
-// The numbers of a script's lines, or where it is bad.
-fn numbers(alloc: Global, script: &[u8]) -> Result<String, Fail> {
-    if script.len() > 1000 {
-        return Ok(String::from_str(alloc, "long")?);
-    }
-    let jobs = match parse_lines(alloc, &KINDS, script) {
-        Ok(jobs) => jobs,
-        Err(ScriptError::BadLine { line, column }) => {
-            return Ok(format!(in alloc; "bad {line} {column}")?);
-        }
-        Err(ScriptError::NoMemory) => return Ok(String::from_str(alloc, "no memory")?),
-    };
-    let mut text = String::new(alloc);
-    for numbered in jobs.as_slice() {
-        let number = format!(in alloc; "{} ", numbered.line)?;
-        text.push_str(number.as_str())?;
-    }
-    Ok(text)
-}
-
-#[test]
-fn scripts(rt: HostRuntime) -> Result<(), Fail> {
-    let table: [(&[u8], &str); 13] = [
-        (b"", ""),
-        (b"\n\r\n", ""),
-        (b"#x", ""),
-        (b"scan 't'\nscan 't'\r\nscan 't'", "1 2 3 "),
-        (b"# scan 't'\n\n\r\nscan 't'\n", "4 "),
-        (b"scan 't'\n\nscan t\nscna", "bad 3 6"),
-        (b"scan 't'\r", "bad 1 9"),
-        (b"scan\r't'\n", "bad 1 5"),
-        (b"scan 't'\r\r\n", "bad 1 9"),
-        (b" # x\n", "bad 1 1"),
-        (b"#\n  \n", "bad 2 1"),
-        (b"put 't','r','f:q','v',01", "bad 1 24"),
-        (b"create 't','f'", "bad 1 2"),
-    ];
-    for (script, want) in table {
-        let found = numbers(rt.alloc(), script)?;
-        assert_eq!(rt; found.as_str(), want, "a script of {} bytes", script.len());
     }
     Ok(())
 }

@@ -9,7 +9,7 @@ use Rattle.std.proofs.lemmas.List.Splits.{slice_split_at, slice_split_none}
 use Rattle.hb_grammar.proofs.AvoidsLemmas.{Lacks}
 use Rattle.shell_text.specs.TextLaws.{cond_false, cond_true}
 use Rattle.shell_value.specs.Cut.{before, behind, has_mark}
-use Rattle.shell_lang.specs.Script.{first_line}
+use Rattle.shell_script.specs.Lines.{first_line}
 
 -- bytes cut at a mark that they have
 pub record IsCutAt (mark : ℕ) (bytes : List ℕ) : Type 0 where

@@ -1,0 +1,4 @@
+pub mod LineLemmas
+pub mod BlockLemmas
+pub mod AddLemmas
+pub mod ScriptLemmas

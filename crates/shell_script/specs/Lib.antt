@@ -1,0 +1,4 @@
+pub mod Lines
+pub mod Block
+pub mod Session
+pub mod Script
