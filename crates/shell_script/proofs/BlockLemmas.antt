@@ -1,5 +1,5 @@
 -- Block lines as a grammar, and where a line of two grammars goes bad.
-use Rattle.std.proofs.Common.{◌≡◌, ℕ, ◌<◌, ◌≤◌, ◌+◌, List, [], ◌∷◌, ◌++◌, Bool, true, false, ◌&&◌, ◌⊎◌, eqb, codes, drop, length, nat_le, refl, sym, ap, ◌∙◌, subst, arith, inl, inr}
+use Rattle.std.proofs.Common.{◌≡◌, ℕ, ◌<◌, ◌≤◌, List, [], ◌∷◌, ◌++◌, Bool, true, false, ◌&&◌, ◌⊎◌, eqb, codes, drop, length, nat_le, refl, sym, ap, ◌∙◌, subst, arith, inl, inr}
 use Rattle.std.specs.List.{list_all, starts_with}
 use Rattle.std.proofs.lemmas.Bool.Decides.{Decides-eqb, nat_tests}
 use Rattle.std.proofs.lemmas.Slice.Eq.{starts_is}
@@ -11,7 +11,7 @@ use Rattle.hb_grammar.specs.Joined.{Joined}
 use Rattle.hb_grammar.specs.Run.{IsRun}
 use Rattle.shell_line.specs.declared.line_kind.LineKind.{LineKind}
 use Rattle.shell_line.specs.Line.{IsLine}
-use Rattle.shell_script.specs.Block.{IsBlock, block_name, is_block, is_block_name}
+use Rattle.shell_script.specs.Block.{IsBlock, block_name, is_block_name}
 use Rattle.shell_script.specs.Session.{IsAllowed}
 
 -- the mark of a block line

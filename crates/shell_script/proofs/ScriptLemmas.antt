@@ -1,5 +1,5 @@
 -- The lines that were listed, and the sessions that they were read as.
-use Rattle.std.proofs.Common.{◌≡◌, ℕ, ◌+◌, ◌<◌, ◌≤◌, ◌⊎◌, List, [], ◌∷◌, ◌++◌, Bool, true, false, cond, length, filter, map, take, drop, get_or, refl, sym, ap, ◌∙◌, subst, arith, inl, inr}
+use Rattle.std.proofs.Common.{◌≡◌, ℕ, ◌+◌, ◌<◌, ◌≤◌, List, [], ◌∷◌, ◌++◌, Bool, true, false, cond, length, filter, map, take, drop, get_or, refl, sym, ap, ◌∙◌, subst, arith, inl, inr}
 use Rattle.std.specs.List.{AllByRecursion, enumerate_from}
 use Rattle.std.specs.Str.Lines.{lines}
 use Rattle.std.proofs.lemmas.List.{append_assoc, append-nil, drop_more, length-append, map-append, take-append-drop}
@@ -10,7 +10,7 @@ use Rattle.shell_value.specs.Cut.{behind}
 use Rattle.shell_lang.specs.Line.{Asks}
 use Rattle.shell_script.specs.declared.session.NumberedJob.{NumberedJob}
 use Rattle.shell_script.specs.declared.session.Session.{Session}
-use Rattle.shell_script.specs.Block.{begins, block_name, is_block, is_used, names_of}
+use Rattle.shell_script.specs.Block.{begins, block_name, is_used, names_of}
 use Rattle.shell_script.specs.Lines.{first_line, is_kept, kept_lines}
 use Rattle.shell_script.specs.Session.{Adds, AllAsk, AreGood, IsAdded, IsBadBehind, IsGood, IsStart, name_of, names_begun, names_behind}
 use Rattle.shell_script.specs.Script.{AreParsed, AreSessions, IsFirstBad, IsSession}
