@@ -5,7 +5,7 @@ use Rattle.plain_model.specs.declared.event.Event.{Event}
 use Rattle.plain_model.specs.declared.event.Event.TheVariants.{Put, Draw}
 use Rattle.plain_model.specs.declared.parts.PlainSnapshot.{PlainSnapshot}
 use Rattle.plain_model.specs.After.{after}
-use Rattle.plain_model.specs.CanHappen.{greatest_number}
+use Rattle.plain_model.specs.declared.put_cell.TheConstants.{MAX_NUMBER}
 use Rattle.plain_model.specs.Plain.{Plain}
 use Rattle.plain_events.specs.declared.state.State.{State}
 use Rattle.plain_events.specs.Parts.{by_region, by_actor}
@@ -43,8 +43,8 @@ nothing = record {
 
 -- the number that an event raises stays within its limit
 abbrev pub HasNumber : Event → Plain → Type 0
-HasNumber (Put k c) s = s.seq k + 1 ≤ greatest_number
-HasNumber (Draw k) s = s.seq k + 1 ≤ greatest_number
+HasNumber (Put k c) s = s.seq k + 1 ≤ MAX_NUMBER
+HasNumber (Draw k) s = s.seq k + 1 ≤ MAX_NUMBER
 HasNumber _ s = Unit {0}
 
 -- a state is that after an event, once the snapshots are those after it

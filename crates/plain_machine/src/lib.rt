@@ -6,5 +6,6 @@
 pub mod laws;
 pub mod plain;
 pub(crate) mod replies;
+pub mod views;
 
 pub use plain::Plain;

@@ -11,19 +11,16 @@ use hb_wire::NoMemory;
 use plain_events::State;
 use plain_events::by_region::value_of;
 use plain_events::take::change_snapshots;
-use plain_model::{Event, Job, Reply};
+use plain_model::{Event, Job, MAX_NUMBER, Reply};
 use plain_tables::snapshots::Snapshots;
 use std::alloc::Global;
 use std::collections::BTreeMap;
-
-/// The greatest sequence number.
-const GREATEST_NUMBER: u64 = 9_223_372_036_854_775_807;
 
 /// Tables as plain lists of cells, with the activities at work and the completed snapshots. Contracts see it as the
 /// state `state_of`.
 #[derive(Drop)]
 pub struct Plain {
-    alloc: Global,
+    pub(crate) alloc: Global,
     pub(crate) state: State,
     pub(crate) snapshots: Snapshots,
 }
@@ -47,9 +44,9 @@ impl Plain {
     {
         match event {
             Event::Put { region, .. } => *value_of(self.state.seq.as_slice(), region, &0)
-                < GREATEST_NUMBER,
+                < MAX_NUMBER,
             Event::Draw(region) => *value_of(self.state.seq.as_slice(), region, &0)
-                < GREATEST_NUMBER,
+                < MAX_NUMBER,
             _ => true,
         }
     }

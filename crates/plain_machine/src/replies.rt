@@ -22,7 +22,7 @@ use plain_tables::tables::table_at;
 use std::alloc::Global;
 
 /// Why a table can't be read or written.
-fn unless_enabled(machine: &Plain, table: &TableName) -> Option<Reply>
+pub(crate) fn unless_enabled(machine: &Plain, table: &TableName) -> Option<Reply>
     ensures { result ≡ first (not_found (state_of machine.now) table.now ∷ not_enabled (state_of machine.now) table.now ∷ []) }
 {
     match table_at(machine.state.tables.as_slice(), table) {
