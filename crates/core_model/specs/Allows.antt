@@ -15,6 +15,7 @@ use Rattle.core_model.specs.PassGuards.{CanPassRead, CanCleanBackRef, CanDeleteA
 use Rattle.core_model.specs.Replay.{after, begun}
 use Rattle.core_model.specs.Replay as replay
 use Rattle.core_model.specs.State.{Parts, State}
+use Rattle.core_model.specs.declared.journal.TheConstants.{JOURNAL_LIMIT}
 
 abbrev pub Allows : Step → Parts → Type 0
 Allows (step.ListSnapshots who) s = Unit {0}
@@ -75,7 +76,7 @@ abbrev pub HasRoom : ℕ → Step → State → Type 0
 HasRoom n (step.End actor refusal) s = Unit {0}
 HasRoom n (step.Abandon actor) s = Unit {0}
 HasRoom n (step.Unpin actor) s = Unit {0}
-HasRoom n p s = n + length s.now.plain.live + room_of p < 4_194_304
+HasRoom n p s = n + length s.now.plain.live + room_of p < JOURNAL_LIMIT
 
 -- the worker of a step: that of who asks, else the actor's
 abbrev pub worker_of : Step → (ℕ → Option ℕ) → Option ℕ

@@ -18,12 +18,13 @@ use Rattle.core_model.specs.Actors.{Counts}
 use Rattle.core_model.specs.FileGuards.{next_name}
 use Rattle.core_model.specs.Named.{Named}
 use Rattle.core_model.specs.State.{Pinned, Written}
+use Rattle.core_model.specs.declared.journal.TheConstants.{JOURNAL_LIMIT}
 
 -- ---- names
 
 -- no name that is still to be drawn, in a journal within its limit, has the digits of this one
 pub record IsDrawn (epoch files : ℕ) (name : List ℕ) : Type 0 where
-  pub not_again : (k : ℕ) → files ≤ k → k ≤ 4_194_304 → stem name ≡ next_name epoch k None → ⊥
+  pub not_again : (k : ℕ) → files ≤ k → k ≤ JOURNAL_LIMIT → stem name ≡ next_name epoch k None → ⊥
 
 -- names of files, and of store files whose cells are known, lie below the counter of their opening
 pub record NamesAreDrawn (epoch files : ℕ) (tmps : List ℕ → Option FileState) (live archived : Bases) (made : Made) (written : List ℕ → Option Written) : Type 0 where

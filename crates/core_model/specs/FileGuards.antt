@@ -14,6 +14,7 @@ use Rattle.plain_model.specs.declared.hold.Hold.TheVariants as holds
 use Rattle.plain_model.specs.declared.job.Job.TheVariants as jobs
 use Rattle.plain_model.specs.declared.region_key.RegionKey.{RegionKey}
 use Rattle.plain_model.specs.Keys.{key_of}
+use Rattle.plain_model.specs.declared.put_cell.TheConstants.{MAX_NUMBER}
 use Rattle.core_model.specs.declared.entry.Entry.{Entry}
 use Rattle.core_model.specs.declared.recipe.Recipe.{Recipe}
 use Rattle.core_model.specs.declared.recipe.Recipe.TheVariants as recipes
@@ -96,7 +97,7 @@ Moves a (moves.StagedBulk folder name) b cells s = MovesStaged a folder name b c
 -- a bulk kind draws a sequence number, which must not be spent
 abbrev pub DrawsNumber : MoveFrom → ℕ → Type 0
 DrawsNumber (moves.Written name) seq = Unit {0}
-DrawsNumber _ seq = seq < 9_223_372_036_854_775_807
+DrawsNumber _ seq = seq < MAX_NUMBER
 
 pub record CanPlace (a : ℕ) (source : MoveFrom) (b : Base) (cells : List Cell) (s : Parts) : Type 0 where
   pub live : IsLive s.plain.live a

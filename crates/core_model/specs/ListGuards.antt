@@ -18,6 +18,7 @@ use Rattle.plain_model.specs.LiveEvents.{job_of}
 use Rattle.plain_model.specs.Plain.{Plain}
 use Rattle.plain_model.specs.declared.parts.PlainSnapshot.{PlainSnapshot}
 use Rattle.plain_model.specs.declared.parts.RegionCopy.{RegionCopy}
+use Rattle.plain_model.specs.declared.put_cell.TheConstants.{MAX_NUMBER}
 use Rattle.cell_sight.specs.Same.{sorted}
 use Rattle.core_model.specs.declared.entry.Entry.{Entry}
 use Rattle.core_model.specs.declared.entry.Entry.TheVariants.{Own}
@@ -42,7 +43,7 @@ pub record IsNext (a : ℕ) (r : RegionKey) (n : ℕ) (name : List ℕ) (l : Reg
   pub wrote : Wrote a name (recipes.List r (region_list l)) s.disk s.written
   pub replaces : (s.lists r).number ≡ n
   pub number : l.number ≡ n + 1
-  pub unspent : n < 9_223_372_036_854_775_807
+  pub unspent : n < MAX_NUMBER
 
 -- a file that the actor has placed and not listed yet
 pub record Waits (a : ℕ) (r : RegionKey) (family : List ℕ) (b : Base) (s : Parts) : Type 0 where

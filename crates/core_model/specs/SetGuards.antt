@@ -22,6 +22,7 @@ use Rattle.plain_model.specs.LiveEvents.{job_of, live_of}
 use Rattle.plain_model.specs.Plain.{Plain}
 use Rattle.plain_model.specs.declared.parts.Live.{Live}
 use Rattle.plain_model.specs.TableEvents.{tables_on}
+use Rattle.plain_model.specs.declared.put_cell.TheConstants.{MAX_NUMBER}
 use Rattle.core_model.specs.declared.recipe.Recipe.TheVariants as recipes
 use Rattle.core_model.specs.Actors.{HasHold}
 use Rattle.core_model.specs.FileChanges.{set_number}
@@ -91,7 +92,7 @@ pub record CanCommitRegions (a : ℕ) (table : List ℕ) (n : ℕ) (name : List 
   pub lawful : IsRegionSet table set
   pub replaces : set_number (get s.sets table) ≡ n
   pub number : set.number ≡ n + 1
-  pub unspent : n < 9_223_372_036_854_775_807
+  pub unspent : n < MAX_NUMBER
   -- the job's change, and not made before
   pub once : s.changed a table ≡ false
   pub is_change : IsChange (job_of s.plain.live a) change table a s

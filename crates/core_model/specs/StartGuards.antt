@@ -1,5 +1,5 @@
 -- When a job may start, a cell be put, and a region be pinned, and what is answered.
-use Rattle.std.specs.Prelude.{◌≡◌, ◌≢◌, ◌↔◌, ℕ, ◌+◌, ◌<◌, Bool, true, false, ◌&&◌, ◌||◌, List, [], ◌∷◌, ◌++◌, map, Option, Some, None, is_some, is_none, Result, Ok, Err}
+use Rattle.std.specs.Prelude.{◌≤◌, ◌≡◌, ◌≢◌, ◌↔◌, ℕ, ◌+◌, ◌<◌, Bool, true, false, ◌&&◌, ◌||◌, List, [], ◌∷◌, ◌++◌, map, Option, Some, None, is_some, is_none, Result, Ok, Err}
 use Rattle.std.specs.List.{filter, flat_map}
 use Rattle.std.specs.FinMap.{entries}
 use Rattle.hb_records.specs.declared.region_info.RegionInfo.{RegionInfo}
@@ -24,6 +24,7 @@ use Rattle.plain_model.specs.Plain.{Plain}
 use Rattle.plain_model.specs.declared.parts.PlainTable.{PlainTable}
 use Rattle.plain_model.specs.Replies.{Files, reply, reply_with}
 use Rattle.plain_model.specs.ScanView.{pin_refusal}
+use Rattle.plain_model.specs.declared.put_cell.TheConstants.{MAX_NUMBER}
 use Rattle.core_model.specs.declared.entry.Entry.{Entry}
 use Rattle.core_model.specs.declared.region_files.RegionFiles.{RegionFiles}
 use Rattle.core_model.specs.declared.step.Drawn.{Drawn}
@@ -45,7 +46,7 @@ use Rattle.core_model.specs.State.{Parts, no_plan}
 abbrev pub JoinsAs : List ℕ → PutCell → Option ℕ → Option (List ℕ × ℕ) → Plain → Type 0
 JoinsAs table put moment (Some joined) p =
     (reply p (jobs.Put table put) ≡ Fine) × (key_with p table put.row ≡ Some (key_at table joined.0))
-    × (joined.1 ≡ p.seq (key_at table joined.0) + 1) × (joined.1 < 9_223_372_036_854_775_808) × (is_some moment ≡ is_none put.ts)
+    × (joined.1 ≡ p.seq (key_at table joined.0) + 1) × (joined.1 ≤ MAX_NUMBER) × (is_some moment ≡ is_none put.ts)
 JoinsAs table put moment None p = (reply p (jobs.Put table put) ≢ Fine) × (moment ≡ None)
 
 pub record CanPut (table : List ℕ) (put : PutCell) (moment : Option ℕ) (joined : Option (List ℕ × ℕ)) (p : Plain) : Type 0 where

@@ -11,6 +11,9 @@ pub struct JournalEntry {
     pub failed: bool,
 }
 
+/// How many entries a journal has at most.
+pub const JOURNAL_LIMIT: u32 = 4_194_304;
+
 /// What happened since an opening.
 #[derive(Drop)]
 pub struct Journal {

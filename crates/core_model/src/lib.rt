@@ -14,7 +14,7 @@ pub mod targets;
 
 pub use entry::Entry;
 pub use found::Found;
-pub use journal::{Journal, JournalEntry};
+pub use journal::{JOURNAL_LIMIT, Journal, JournalEntry};
 pub use opening::Opening;
 pub use plan::Plan;
 pub use recipe::Recipe;

@@ -19,10 +19,11 @@ use Rattle.core_model.specs.Replay.{after, replay}
 use Rattle.core_model.specs.Site.{Archived}
 use Rattle.core_model.specs.Sound.{IsSound, IsSoundState}
 use Rattle.core_model.specs.State.{Parts}
+use Rattle.core_model.specs.declared.journal.TheConstants.{JOURNAL_LIMIT}
 
 -- a step that is allowed in a sound state leads to a sound one, while no more names are drawn than a journal has room for
 abbrev pub KeepsSound : Step → Parts → Type 0
-KeepsSound p s = s.files ≤ 4_194_304 → Allows p s → IsSound s → IsSound (after p s)
+KeepsSound p s = s.files ≤ JOURNAL_LIMIT → Allows p s → IsSound s → IsSound (after p s)
 
 -- so does each front of a journal of allowed entries, done or failed
 abbrev pub LeadsToSound : Opening → List JournalEntry → ℕ → Type 0

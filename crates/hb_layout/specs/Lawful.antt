@@ -12,6 +12,7 @@ use Rattle.hb_file_names.specs.LinkParts.{link_text}
 use Rattle.hb_file_names.specs.RefName.{IsRefName, ref_text}
 use Rattle.hb_file_names.specs.BackRef.{IsBackRef}
 use Rattle.hb_layout.specs.declared.base.Base.{Base}
+use Rattle.hb_layout.specs.declared.spots.TheConstants.{MAX_EPOCH, MAX_LIST_NUMBER}
 use Rattle.hb_layout.specs.Spot.{Pointer, Spot, Epoch, Tmp, RegionSet, StoreList, Live, Pointing, Archived, BackRefTo, Info, Manifest, WorkInfo, WorkManifest, Staged}
 
 -- the table, region and family of a base are in their grammars
@@ -29,11 +30,11 @@ pub record IsPointer (pointer : Pointer) : Type 0 where
 
 -- the number of a list or set: 1 to 2 ^ 63 - 1
 abbrev pub IsListNumber : ℕ → Type 0
-IsListNumber number = (1 ≤ number) × (number ≤ 9_223_372_036_854_775_807)
+IsListNumber number = (1 ≤ number) × (number ≤ MAX_LIST_NUMBER)
 
 -- the number of an epoch: at most 2 ^ 31 - 1
 abbrev pub IsEpoch : ℕ → Type 0
-IsEpoch number = number ≤ 2_147_483_647
+IsEpoch number = number ≤ MAX_EPOCH
 
 -- each name of the spot is in its grammar, and the numbers of epochs, lists and sets are within their limits
 abbrev pub IsSpelled : Spot → Type 0

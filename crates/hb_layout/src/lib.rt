@@ -5,4 +5,4 @@ pub mod base;
 pub mod spots;
 
 pub use base::{Base, archived, live};
-pub use spots::spots_apart;
+pub use spots::{MAX_EPOCH, MAX_LIST_NUMBER, spots_apart};

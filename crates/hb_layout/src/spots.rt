@@ -5,6 +5,11 @@ ghost use Rattle.hb_layout.specs.Spot.{Spot, place_text};
 ghost use Rattle.hb_layout.specs.Lawful.{IsSpelled, IsLawful};
 ghost use Rattle.hb_names.specs.Place.{IsPlace};
 
+/// The greatest number of a list or a set.
+pub const MAX_LIST_NUMBER: u64 = 9_223_372_036_854_775_807;
+/// The greatest number of an opening.
+pub const MAX_EPOCH: u32 = 2_147_483_647;
+
 /// A spot whose names are in their grammars has a place, and two of them with the same place are the same
 /// spot. So the places of a base are one to one, a live one is never an archived one, and none is that of
 /// a link or a reference.

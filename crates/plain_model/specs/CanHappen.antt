@@ -14,11 +14,8 @@ use Rattle.plain_model.specs.Keys.{key_of, key_at, encoded}
 use Rattle.plain_model.specs.LiveEvents.{region_at, job_of, live_of}
 use Rattle.plain_model.specs.Plain.{Plain}
 use Rattle.plain_model.specs.declared.parts.PlainSnapshot.{PlainSnapshot}
+use Rattle.plain_model.specs.declared.put_cell.TheConstants.{MAX_NUMBER}
 use Rattle.plain_model.specs.Rows.{holds_row}
-
--- the greatest sequence number
-abbrev pub greatest_number : ℕ
-greatest_number = 9_223_372_036_854_775_807
 
 abbrev pub HasTable : Plain → List ℕ → Type 0
 HasTable s t = IsSome (get s.tables t)
@@ -63,7 +60,7 @@ CanComplete s (Some (jobs.Snapshot t name)) = HasTable s t × IsNone (get s.snap
 CanComplete s _ = ⊥
 
 abbrev pub CanPut : Plain → RegionKey → Cell → Type 0
-CanPut s k c = HasRegion s k × (c.seq ≡ s.seq k + 1) × (s.seq k + 1 ≤ greatest_number)
+CanPut s k c = HasRegion s k × (c.seq ≡ s.seq k + 1) × (s.seq k + 1 ≤ MAX_NUMBER)
 
 abbrev pub CanSplit : Plain → List ℕ → List ℕ → RegionInfo → RegionInfo → Type 0
 CanSplit s t parent low high =
@@ -71,12 +68,12 @@ CanSplit s t parent low high =
 
 abbrev pub CanHappen : Event → Plain → Type 0
 CanHappen (Put k c) s = CanPut s k c
-CanHappen (Draw k) s = HasRegion s k × (s.seq k + 1 ≤ greatest_number)
+CanHappen (Draw k) s = HasRegion s k × (s.seq k + 1 ≤ MAX_NUMBER)
 CanHappen (Freeze k) s = HasRegion s k
 CanHappen (Flush k) s = HasRegion s k
 CanHappen (MajorStart a k) s = IsLive s a.0 × HasRegion s k
 CanHappen (Major a k) s = IsLive s a.0 × HasRegion s k × IsSome (s.noted a.0 k)
-CanHappen (Bulk k cells) s = HasRegion s k × All (λ (c : Cell). c.seq ≤ greatest_number) cells
+CanHappen (Bulk k cells) s = HasRegion s k × All (λ (c : Cell). c.seq ≤ MAX_NUMBER) cells
 CanHappen (Capture a k) s = IsLive s a.0 × HasRegion s k
 CanHappen (Complete a) s = CanComplete s (job_of s.live a.0)
 CanHappen (Delete name) s = HasSnapshot s name

@@ -17,7 +17,7 @@ pub use event::Event;
 pub use hold::Hold;
 pub use job::Job;
 pub use parts::{Live, PlainSnapshot, PlainTable, RegionCopy};
-pub use put_cell::PutCell;
+pub use put_cell::{MAX_NUMBER, PutCell};
 pub use region_key::RegionKey;
 pub use reply::Reply;
 pub use who::{Actor, Who};

@@ -7,9 +7,11 @@ use Rattle.hb_grammar.specs.Either.{EitherOf}
 use Rattle.hb_grammar.specs.Numeral.{IsNumeral}
 use Rattle.shell_text.specs.declared.argument.Argument.{Argument}
 use Rattle.shell_text.specs.declared.argument.Argument.TheVariants.{Named, Run, Column, Part}
+use Rattle.shell_text.specs.declared.argument.TheConstants.{MAX_VALUE}
 use Rattle.shell_text.specs.Blanks.{BlanksFrom, PaddedFrom}
 use Rattle.shell_text.specs.Repeated.{ItemsThen}
 use Rattle.shell_text.specs.Text.{IsText}
+use Rattle.shell_line.specs.declared.form.TheConstants.{MAX_STAMP, MAX_VERSIONS}
 
 -- the name of a table or of a snapshot: 1 to 100 bytes
 abbrev pub name : Argument
@@ -25,7 +27,7 @@ row = Run None 1 32766
 
 -- a value: up to 10,485,760 bytes
 abbrev pub cell_value : Argument
-cell_value = Run None 0 10485760
+cell_value = Run None 0 MAX_VALUE
 
 -- a family, a colon and a qualifier
 abbrev pub column : Argument
@@ -53,7 +55,7 @@ IsNumberEnd low max = EitherOf (IsNumeral low max) (Joined (Marked (IsNumeral lo
 
 -- the end of a line, or a timestamp behind a comma and then the end
 abbrev pub IsStamp : List ℕ → Type 0
-IsStamp = EitherOf (BlanksFrom false) (Joined (IsLead false 44) (PaddedFrom true (IsNumberEnd 0 9223372036854775807)))
+IsStamp = EitherOf (BlanksFrom false) (Joined (IsLead false 44) (PaddedFrom true (IsNumberEnd 0 MAX_STAMP)))
 
 -- 'version' in its quotes, written without escapes, and the end of a line
 abbrev pub IsVersion : List ℕ → Type 0
@@ -61,8 +63,8 @@ IsVersion = Joined (IsLead false 39) (Joined (λ bytes. bytes ≡ codes "version
 
 -- a timestamp, and then 'version' behind a comma
 abbrev pub IsStampVersion : List ℕ → Type 0
-IsStampVersion = EitherOf (Joined (Marked (IsNumeral 0 9223372036854775807) 44) IsVersion)
-    (Joined (Marked (IsNumeral 0 9223372036854775807) 32) (Joined (IsLead false 44) IsVersion))
+IsStampVersion = EitherOf (Joined (Marked (IsNumeral 0 MAX_STAMP) 44) IsVersion)
+    (Joined (Marked (IsNumeral 0 MAX_STAMP) 32) (Joined (IsLead false 44) IsVersion))
 
 -- the end of a line; or a timestamp, and 'version' behind it or not
 abbrev pub IsVersionStamp : List ℕ → Type 0
@@ -74,7 +76,7 @@ IsSplits some = Joined (IsLead some 115) (Joined (λ bytes. bytes ≡ codes "pli
 
 -- a number of versions, and then splits or the end of a line
 abbrev pub IsVersionCount : List ℕ → Type 0
-IsVersionCount = EitherOf (IsNumberEnd 1 2147483647) (Joined (Marked (IsNumeral 1 2147483647) 32) (IsSplits false))
+IsVersionCount = EitherOf (IsNumberEnd 1 MAX_VERSIONS) (Joined (Marked (IsNumeral 1 MAX_VERSIONS) 32) (IsSplits false))
 
 -- the word versions and its number; 118 is v
 abbrev pub IsVersions : List ℕ → Type 0

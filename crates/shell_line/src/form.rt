@@ -11,7 +11,9 @@ use shell_text::argument::ROW;
 use shell_text::{Blanks, Padded, Repeated};
 
 /// The greatest timestamp.
-const MAX_STAMP: u64 = 9_223_372_036_854_775_807;
+pub const MAX_STAMP: u64 = 9_223_372_036_854_775_807;
+/// The greatest count of versions.
+pub const MAX_VERSIONS: u64 = 2_147_483_647;
 
 type StampParts = Either<Blanks, Then<Lead, Padded<NumberEnd>>>;
 
@@ -253,8 +255,8 @@ impl Grammar for SplitsGrammar {
 fn version_count_parts() -> VersionCountParts
     ensures { Same (⟦<VersionCountParts as Grammar>⟧.spells result) (IsVersionCount) }
 {
-    let alone = number_end(1, 2_147_483_647);
-    let number = numeral(1, 2_147_483_647, b' ');
+    let alone = number_end(1, MAX_VERSIONS);
+    let number = numeral(1, MAX_VERSIONS, b' ');
     let more = Then::new(number, splits(false));
     Either::new(alone, more)
 }

@@ -5,6 +5,7 @@ use Rattle.hb_grammar.specs.declared.class.Class.TheVariants.{Name, FamilyStart,
 use Rattle.hb_grammar.specs.Class.{has}
 use Rattle.shell_text.specs.declared.argument.Argument.{Argument}
 use Rattle.shell_text.specs.declared.argument.Argument.TheVariants.{Named, Run, Column, Qualifier, Part, OneDot, TwoDots}
+use Rattle.shell_text.specs.declared.argument.TheConstants.{MAX_QUALIFIER}
 
 -- whether a run has this byte: any byte, or one of a class
 abbrev pub has_byte : Option Class → ℕ → Bool
@@ -19,7 +20,7 @@ run_next class zero zero = None
 
 -- what is left of the rest of a family's name, its colon and a qualifier; 58 is the colon
 abbrev pub qualifier_next : ℕ → ℕ → Option Argument
-qualifier_next more byte = cond (nat_eq byte 58) (Some (Run None 0 32767)) (cond (nat_lt 0 more && has Name byte) (Some (Qualifier (more - 1))) None)
+qualifier_next more byte = cond (nat_eq byte 58) (Some (Run None 0 MAX_QUALIFIER)) (cond (nat_lt 0 more && has Name byte) (Some (Qualifier (more - 1))) None)
 
 -- what is left of a component, of which only dots were read, behind another byte
 abbrev pub part_next : ℕ → ℕ → Option Argument

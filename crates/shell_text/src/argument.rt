@@ -23,6 +23,11 @@ pub enum Argument {
     TwoDots,
 }
 
+/// The greatest length of a qualifier.
+pub const MAX_QUALIFIER: usize = 32_767;
+/// The greatest length of a value.
+pub const MAX_VALUE: usize = 10_485_760;
+
 /// The name of a table or a snapshot: 1 to 100 bytes.
 pub const NAME: Argument = Argument::Named(Class::NameStart, 99);
 /// The name of a family: 1 to 127 bytes.
@@ -30,7 +35,7 @@ pub const FAMILY: Argument = Argument::Named(Class::FamilyStart, 126);
 /// A row: 1 to 32,767 bytes.
 pub const ROW: Argument = Argument::Run(None, 1, 32_766);
 /// A value: up to 10,485,760 bytes.
-pub const VALUE: Argument = Argument::Run(None, 0, 10_485_760);
+pub const VALUE: Argument = Argument::Run(None, 0, MAX_VALUE);
 
 /// Whether a run has this byte.
 fn has_byte(class: Option<Class>, byte: u8) -> bool
@@ -60,7 +65,7 @@ fn qualifier_next(more: usize, byte: u8) -> Option<Argument>
     ensures { result ≡ qualifier_next more byte }
 {
     if byte == b':' {
-        Some(Argument::Run(None, 0, 32_767))
+        Some(Argument::Run(None, 0, MAX_QUALIFIER))
     } else if more > 0 && Class::Name.has(byte) {
         Some(Argument::Qualifier(more - 1))
     } else {
