@@ -1,11 +1,11 @@
--- How a buffer is filled from a source, and what the bytes in it say of the whole input.
-use Rattle.std.proofs.Common.{◌≡◌, ℕ, ◌+◌, ◌-◌, ◌<◌, ◌≤◌, inl, inr, List, [], ◌++◌, length, take, drop, Option, Some, None, IfSome, option_map, ap, sym, subst, ◌∙◌, arith}
-use Rattle.std.proofs.Math.Seq.{take-add, take-append-add}
-use Rattle.std.proofs.lemmas.Bool.{cases_lt}
-use Rattle.std.proofs.lemmas.List.{append-nil, drop-drop, drop_all, length-append, length-drop, length-take-le, take-append-drop, take-append-le, take_all}
+-- How a buffer is filled from a source, and how much of the input was read.
+use Rattle.std.proofs.Common.{◌≡◌, ℕ, ◌+◌, ◌-◌, ◌<◌, ◌≤◌, List, [], ◌++◌, length, take, drop, Option, Some, None, IfSome, option_map, refl, ap, sym, subst, ◌∙◌, arith}
+use Rattle.std.proofs.Math.Seq.{drop-append_seam, take-add, take-append-add}
+use Rattle.std.proofs.lemmas.List.{append_assoc, append-nil, drop-drop, length-append, length-drop, length-take-le, take-append-drop, take-append-le, take_all}
 use borrow.Rule.Slice.PartMut.{put_mid, post_of}
 use Rattle.hb_causes.specs.Source.{Moves}
-use Rattle.hbase_shell.specs.Script.{IsScript, ReadsScript, ReadsAnother, HasMoved}
+use Rattle.hbase_shell.specs.declared.script.TheConstants.{MAX_INPUT}
+use Rattle.hbase_shell.specs.Script.{HasMoved, HasRead, ReadsTooLong, ReadsWhole}
 
 -- the bytes that a read moves stand at the front of the buffer
 take-Moves : (n : ℕ) (bytes old new : List ℕ) → Moves n bytes old new → (behind : List ℕ) → take n (new ++ behind) ≡ take n bytes
@@ -32,41 +32,43 @@ HasMoved-more count n k (Some input) mid rest buffer old new within moved moves 
       e ∙ ap (option_map (drop n)) moved.2 ∙ ap (λ (x : List ℕ). Some x) (drop-drop n count input),
     )
 
--- the script has at most 15 bytes
-length-IsScript : (input : List ℕ) → IsScript input → length input ≤ 15
-length-IsScript input script = elim script as (λ _. length input ≤ 15) [
-  | inl e ↦ subst (λ (x : List ℕ). length x ≤ 15) (sym e) (omega arith)
-  | inr e ↦ subst (λ (x : List ℕ). length x ≤ 15) (sym e) (omega arith)
-]
+-- nothing was read yet
+pub HasRead-start : (left : Option (List ℕ)) → HasRead left left []
+HasRead-start None = tt
+HasRead-start (Some told) = (told, refl, refl)
 
--- an input that ended before the buffer was full is what was moved of it
-whole-HasMoved : (count : ℕ) (input : List ℕ) (rest : Option (List ℕ)) → rest ≡ Some [] → rest ≡ Some (drop count input) → (take count input ≡ input) × (length input ≤ count)
-whole-HasMoved count input rest none all =
-    let behind : drop count input ≡ [] = cc in
-    let e : take count input ≡ input = sym (append-nil (take count input)) ∙ ap (λ (x : List ℕ). take count input ++ x) (sym behind) ∙ take-append-drop count input in
-    (e, omega (arith, length-drop count input, ap length behind))
+-- more was read
+read_more : (count : ℕ) (told bytes more buffer : List ℕ) (mid rest : Option (List ℕ)) → told ≡ bytes ++ more → mid ≡ Some more → HasMoved count mid rest buffer →
+    HasRead (Some told) rest (bytes ++ take count buffer)
+read_more count told bytes more buffer mid rest whole is moved =
+    let here : HasMoved count (Some more) rest buffer = subst (λ (o : Option (List ℕ)). HasMoved count o rest buffer) is moved in (
+      drop count more,
+      whole ∙ ap (λ (l : List ℕ). bytes ++ l) (sym (take-append-drop count more)) ∙ sym (append_assoc bytes (take count more) (drop count more))
+          ∙ ap (λ (l : List ℕ). (bytes ++ l) ++ drop count more) (sym here.1),
+      here.2,
+    )
 
--- the bytes moved are the script, so they are the whole input
-pub ReadsScript-from_moved : (count : ℕ) (left rest : Option (List ℕ)) (buffer : List ℕ) → HasMoved count left rest buffer →
-    (count < 16 → IfSome left (λ _. rest ≡ Some [])) → IsScript (take count buffer) → ReadsScript left rest
-ReadsScript-from_moved count None rest buffer moved whole script = tt
-ReadsScript-from_moved count (Some input) rest buffer moved whole script =
-    let front : IsScript (take count input) = subst IsScript moved.1 script in
-    let short : count < 16 = omega (arith, length-IsScript _ front, length-take-le count input moved.0) in
-    (subst IsScript (whole-HasMoved count input rest (whole short) moved.2).0 front, whole short)
+pub HasRead-more : (count : ℕ) (left mid rest : Option (List ℕ)) (bytes buffer : List ℕ) → HasRead left mid bytes → HasMoved count mid rest buffer →
+    HasRead left rest (bytes ++ take count buffer)
+HasRead-more count None mid rest bytes buffer read moved = tt
+HasRead-more count (Some told) mid rest bytes buffer read moved = read_more count told bytes read.0 buffer mid rest read.1 read.2 moved
 
--- the bytes moved are not the script, and neither is the input
-pub ReadsAnother-from_moved : (count : ℕ) (left rest : Option (List ℕ)) (buffer : List ℕ) → count ≤ 16 → HasMoved count left rest buffer →
-    (count < 16 → IfSome left (λ _. rest ≡ Some [])) → ¬ IsScript (take count buffer) → ReadsAnother left rest
-ReadsAnother-from_moved count None rest buffer within moved whole other = tt
-ReadsAnother-from_moved count (Some input) rest buffer within moved whole other = elim (cases_lt count 16) as (λ _. ReadsAnother (Some input) rest) [
-  | inl short ↦
-      let all = whole-HasMoved count input rest (whole short) moved.2 in
-      (λ script. other (subst IsScript (sym (moved.1 ∙ all.0)) script), whole short ∙ ap (λ (x : List ℕ). Some x) (sym (drop_all 16 input (omega (arith, all.1)))))
-  | inr full ↦
-      let e : count ≡ 16 = omega arith in
-      (λ script. absurd (omega (arith, length-IsScript input script, moved.0)), moved.2 ∙ ap (λ n. Some (drop n input)) e)
-]
+-- the input ended, so what was read is all of it
+pub ReadsWhole-HasRead : (left mid rest : Option (List ℕ)) (old bytes : List ℕ) → HasRead left mid old → HasRead left rest bytes → IfSome mid (λ _. rest ≡ Some []) → ReadsWhole left rest bytes
+ReadsWhole-HasRead None mid rest old bytes before read none = tt
+ReadsWhole-HasRead (Some told) mid rest old bytes before read none =
+    let ended : rest ≡ Some [] = subst (λ (o : Option (List ℕ)). IfSome o (λ _. rest ≡ Some [])) before.2 none in
+    let left : read.0 ≡ [] = let same : Some read.0 ≡ Some [] = sym read.2 ∙ ended in cc in
+    (read.1 ∙ ap (λ (l : List ℕ). bytes ++ l) left ∙ append-nil bytes, ended)
+
+-- one byte too many was read
+pub ReadsTooLong-HasRead : (left rest : Option (List ℕ)) (bytes : List ℕ) → length bytes ≡ MAX_INPUT + 1 → HasRead left rest bytes → ReadsTooLong left rest
+ReadsTooLong-HasRead None rest bytes long read = tt
+ReadsTooLong-HasRead (Some told) rest bytes long read =
+    let more : List ℕ = read.0 in
+    let behind : drop (MAX_INPUT + 1) told ≡ more =
+    ap (drop (MAX_INPUT + 1)) read.1 ∙ ap (λ (n : ℕ). drop n (bytes ++ more)) (sym long) ∙ drop-append_seam bytes more in
+    (omega (arith, long, ap length read.1, length-append bytes more), read.2 ∙ ap (λ (l : List ℕ). Some l) (sym behind))
 
 -- what is written into the end of a buffer fits the buffer
 pub within-put_mid : (count n : ℕ) (buffer new : List ℕ) → count ≤ length buffer → n ≤ length new → count + n ≤ length (put_mid count (length buffer - count) buffer new)

@@ -1,13 +1,16 @@
 -- What a run of the program answers, and why.
-use Rattle.std.specs.Prelude.{◌≡◌, ℕ, List, Option, Result, Ok, Err, IsOk, ◌⊎◌}
+use Rattle.std.specs.Prelude.{◌≡◌, ◌<◌, ℕ, false, List, Option, Result, Ok, Err, IsOk, ◌⊎◌, length}
+use Rattle.std.specs.List.{flat_map}
 use Rattle.hb_causes.specs.Faults.{Rose}
 use Rattle.ns_tree.specs.Tree.{Tree}
 use Rattle.hbase_shell.specs.declared.run_error.RunError.{RunError}
-use Rattle.hbase_shell.specs.declared.run_error.RunError.TheVariants.{BadScript, Usage, ReadFault, NsFault, NoMemory}
+use Rattle.hbase_shell.specs.declared.run_error.RunError.TheVariants.{TooLong, BadScript, Usage, ReadFault, NsFault, NoMemory}
 use Rattle.hbase_shell.specs.Output.{Writes, WritesFront}
 use Rattle.hbase_shell.specs.RunError as error
-use Rattle.hbase_shell.specs.Script.{ReadsScript, ReadsAnother}
+use Rattle.hbase_shell.specs.Script.{IsScript, ReadsBad, ReadsTooLong, ReadsWhole, lines_of, run_kinds}
 use Rattle.hbase_shell.specs.Snapshots.{IsListing}
+use Rattle.shell_script.specs.declared.session.Script.{Script}
+use Rattle.shell_script.specs.Script.{AreParsed}
 use Rattle.shell_words.specs.declared.options.Options.{Options}
 use Rattle.shell_words.specs.declared.words.WordsError.{WordsError}
 use Rattle.shell_words.specs.declared.words.WordsError.TheVariants as words
@@ -65,25 +68,49 @@ met_of left read_faults old_input new_input ns_faults told old_store new_store w
   told = told old_store;
 }
 
--- the words were taken, and the input was the script
+-- the input was a script, and these are its sessions
+abbrev pub ReadsScript : Option (List ℕ) → Option (List ℕ) → Script → Type 0
+ReadsScript left rest script = (input : List ℕ) × ReadsWhole left rest input × IsScript input × AreParsed run_kinds false (lines_of input) script.sessions
+
+-- what brings an error while the script is read: of its source's counts of failed calls, and of what that tells
+abbrev pub IsScriptCause : Option (List ℕ) → Option (List ℕ) → ℕ → ℕ → RunError → Type 0
+IsScriptCause left rest before after TooLong = ReadsTooLong left rest
+IsScriptCause left rest before after (BadScript bad) = ReadsBad left rest bad.session bad.line bad.column × (bad.text ≡ error.bad_line bad.session bad.line bad.column)
+IsScriptCause left rest before after ReadFault = Rose before after
+IsScriptCause left rest before after NoMemory = Unit {0}
+IsScriptCause left rest before after Usage = ⊥
+IsScriptCause left rest before after NsFault = ⊥
+
+-- the words were taken, and the input was a script
 abbrev pub WasScript : {N : Type 0} → Met N → Type 0
-WasScript met = IsOk met.words × ReadsScript met.left.old met.left.new
+WasScript met = IsOk met.words × (input : List ℕ) × ReadsWhole met.left.old met.left.new input × IsScript input
 
 -- the store is as it was handed in
 abbrev pub IsUntouched : {N : Type 0} → Met N → Type 0
 IsUntouched met = met.store.new ≡ met.store.old
 
+-- what brings an error while the script is read, after words that were taken and before the store is asked
+abbrev pub IsInputCause : {N : Type 0} → Met N → RunError → Type 0
+IsInputCause met e = IsOk met.words × IsScriptCause met.left.old met.left.new met.read_faults.old met.read_faults.new e × IsUntouched met
+
 -- what brings an error
 abbrev pub IsCause : {N : Type 0} → Met N → RunError → Type 0
 IsCause met Usage = (met.words ≡ Err words.Usage) × IsUntouched met
-IsCause met ReadFault = IsOk met.words × Rose met.read_faults.old met.read_faults.new × IsUntouched met
-IsCause met BadScript = IsOk met.words × ReadsAnother met.left.old met.left.new × IsUntouched met
+IsCause met TooLong = IsInputCause met TooLong
+IsCause met (BadScript bad) = IsInputCause met (BadScript bad)
+IsCause met ReadFault = IsInputCause met ReadFault
 IsCause met NsFault = WasScript met × Rose met.ns_faults.old met.ns_faults.new
-IsCause met NoMemory = ((met.words ≡ Err words.NoMemory) × IsUntouched met) ⊎ WasScript met
+IsCause met NoMemory = (((met.words ≡ Err words.NoMemory) ⊎ IsOk met.words) × IsUntouched met) ⊎ WasScript met
+
+-- one listing of the store's snapshots stands for each of the lines; the store was asked for it if there is a line
+pub record AreListings (told : Option Tree) (lines : List (ℕ × List ℕ)) (text : List ℕ) : Type 0 where
+  pub listing : List ℕ
+  pub whole : text ≡ flat_map (λ (line : ℕ × List ℕ). listing) lines
+  pub listed : 0 < length lines → IsListing told listing
 
 -- what brings an answer
 abbrev pub IsDue : {N : Type 0} → Met N → Result (List ℕ) RunError → Type 0
-IsDue met (Ok text) = WasScript met × IsListing met.told text
+IsDue met (Ok text) = IsOk met.words × (input : List ℕ) × ReadsWhole met.left.old met.left.new input × IsScript input × AreListings met.told (lines_of input) text
 IsDue met (Err e) = IsCause met e
 
 -- the answer was written whole, or a fault of the sink cut it off
@@ -104,6 +131,13 @@ pub record IsRun {N : Type 0} (given : List (List ℕ)) (met : Result Options Wo
   pub reading : IsReading given words
   pub answered : IsAnswered (met words) sent status
 
--- a whole listing of the store was written
-abbrev pub ListsSnapshots : Option Tree → Option (List ℕ) → Option (List ℕ) → Type 0
-ListsSnapshots told old new = (text : List ℕ) × IsListing told text × Writes old new text
+-- the whole input was a script, and its answer was written whole
+abbrev pub AnswersScript : Option Tree → Option (List ℕ) → Option (List ℕ) → Option (List ℕ) → Option (List ℕ) → Type 0
+AnswersScript told left rest old new =
+    (input : List ℕ) × (text : List ℕ) × ReadsWhole left rest input × IsScript input × AreListings told (lines_of input) text × Writes old new text
+
+-- the input was no script, and that was written: it is too long, or it has a bad line, and which is the first
+abbrev pub RefusesScript : Option (List ℕ) → Option (List ℕ) → Option (List ℕ) → Option (List ℕ) → Type 0
+RefusesScript left rest old new =
+    (ReadsTooLong left rest × Writes old new (error.last_line TooLong))
+    ⊎ ((session : ℕ) × (number : ℕ) × (column : ℕ) × ReadsBad left rest session number column × Writes old new (error.bad_line session number column))

@@ -1,11 +1,13 @@
 -- The snapshots of a store, and how they are listed (HBase Reference Guide, Snapshots).
-use Rattle.std.specs.Prelude.{◌≡◌, ◌==◌, ℕ, List, ◌++◌, ◌↔◌, Bool, false, length, codes, decimal, IsTrue, Contains, Option, IfSome}
-use Rattle.std.specs.List.{flat_map, list_any}
+use Rattle.std.specs.Prelude.{◌≡◌, ◌==◌, ◌<◌, ℕ, List, ◌++◌, ◌↔◌, Bool, false, length, codes, decimal, IsTrue, Contains, Option, IfSome}
+use Rattle.std.specs.List.{AllByRecursion, flat_map, list_any}
 use Rattle.std.specs.List.Sorted.{IsStrictlySortedBy}
 use Rattle.std.specs.FinMap.{contains_key}
 use Rattle.std.specs.Ordering.{nat_cmp}
 use Rattle.std.specs.Cmp.Lexicographic.{slice_cmp}
 use Rattle.hb_names.specs.SnapName.{IsSnapName}
+use Rattle.plain_model.specs.declared.job.Job.TheVariants as job
+use Rattle.shell_script.specs.declared.session.NumberedJob.{NumberedJob}
 use Rattle.ns_tree.specs.Places.{is_below}
 use Rattle.ns_tree.specs.Tree.{Tree}
 use Rattle.hbase_shell.specs.Script.{line}
@@ -42,3 +44,13 @@ pub record IsListing (told : Option Tree) (text : List ℕ) : Type 0 where
   pub whole : text ≡ listing_text names
   pub in_order : IsStrictlySortedBy (slice_cmp nat_cmp) names
   pub snapshots : IfSome told (λ tree. (name : List ℕ) → Contains names name ↔ IsSnapshotOf tree name)
+
+-- each of the lines asks for the snapshots
+abbrev pub AskForSnapshots : List NumberedJob → Type 0
+AskForSnapshots lines = AllByRecursion (λ (line : NumberedJob). line.job ≡ job.ListSnapshots) lines
+
+-- the text is one listing for each of the lines
+pub record AreAnswered (told : Option Tree) (lines : List NumberedJob) (text : List ℕ) : Type 0 where
+  pub listing : List ℕ
+  pub whole : text ≡ flat_map (λ (line : NumberedJob). listing) lines
+  pub listed : 0 < length lines → IsListing told listing

@@ -1,6 +1,7 @@
 //! The program from words and bytes to bytes: it reads a script, answers it from a store, and writes the answer.
 #![tactic(auto)]
 
+mod answer;
 pub mod outcome;
 mod output;
 pub mod program;

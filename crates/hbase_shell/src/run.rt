@@ -1,9 +1,12 @@
 //! The program's calls, from words and bytes to bytes.
-ghost use Rattle.std.specs.Prelude.{◌≡◌, ◌≢◌, ◌⊎◌, Ok, IfSome, map};
+ghost use Rattle.std.specs.Prelude.{◌≡◌, ◌≢◌, ◌<◌, ◌≤◌, ◌⊎◌, ◌++◌, ℕ, List, Ok, IfOk, IfErr, IfSome, OnOk, false, length, map};
+ghost use Rattle.std.specs.List.{AllByRecursion, flat_map};
+ghost use Rattle.std.specs.Result.{IsErrOf};
 ghost use Rattle.std.specs.String.{string_bytes};
 ghost use Rattle.hb_causes.specs.Faults.{Rose};
-ghost use Rattle.hbase_shell.specs.Run.{IsAnswered, IsDue, IsRun, IsWritten, ListsSnapshots, met_of, sent_of};
-ghost use Rattle.hbase_shell.specs.Script.{IsScript, ReadsScript, ReadsAnother};
+ghost use Rattle.hbase_shell.specs.Run.{AnswersScript, AreListings, IsAnswered, IsDue, IsRun, IsWritten, RefusesScript, met_of, sent_of};
+ghost use Rattle.hbase_shell.specs.Script.{IsScript, run_kinds};
+ghost use Rattle.shell_script.specs.Script.{AreParsed};
 ghost use Rattle.shell_words.specs.declared.options.Options.{Options};
 ghost use Rattle.shell_words.specs.Line.{IsPlainLine};
 ghost use Rattle.shell_words.specs.Reading.{AreTaken, Refuses};
@@ -11,8 +14,8 @@ ghost use Rattle.shell_words.specs.Reading.{AreTaken, Refuses};
 use crate::outcome::Outcome;
 use crate::output::write_text;
 use crate::run_error::RunError;
+use crate::answer::{answer_lines, lines_of};
 use crate::script::read_script;
-use crate::snapshots::list_snapshots;
 use hb_causes::{Clock, Failed, Gate, Sink, Source};
 use hb_wire::Blob;
 use ns_tree::Namespace;
@@ -52,22 +55,22 @@ pub fn hbase<
 
     // So this is what each status says.
     ensures listed { result.status ≡ 0 → AreTaken (map string_bytes words.now)
-        × ReadsScript (I.left input.old) (I.left input.new)
-        × ListsSnapshots (N.told store) (O.written output.old) (O.written output.new) }
-    ensures bad_script { result.status ≡ 1 → ReadsAnother (I.left input.old) (I.left input.new) }
+        × AnswersScript (N.told store) (I.left input.old) (I.left input.new) (O.written output.old) (O.written output.new) }
+    ensures refused { result.status ≡ 1 → RefusesScript (I.left input.old) (I.left input.new) (O.written output.old) (O.written output.new) }
     ensures usage { result.status ≡ 2 → Refuses (map string_bytes words.now) }
     ensures read_fault { result.status ≡ 3 → Rose (I.faults input.old) (I.faults input.new) }
     ensures write_fault { result.status ≡ 4 → Rose (O.faults output.old) (O.faults output.new) }
     ensures ns_fault { result.status ≡ 5 → Rose (N.faults store) (N.faults result.store) }
 
     // A plain line of words is taken. Other words and other inputs are refused as such, unless a fault is, or there is
-    // no memory for the words.
+    // no memory. A script is not refused.
     ensures plain_words { (options : Options) → IsPlainLine (map string_bytes words.now) options → result.status ≢ 2 }
     ensures other_words { ¬ AreTaken (map string_bytes words.now)
         → ((result.status ≡ 2) ⊎ ((result.status ≡ 4) ⊎ (result.status ≡ 8))) × (input.new ≡ input.old) }
     ensures other_script { (options : Options) → IsPlainLine (map string_bytes words.now) options
         → IfSome (I.left input.old) (λ script. ¬ IsScript script
         → (result.status ≡ 1) ⊎ ((result.status ≡ 3) ⊎ ((result.status ≡ 4) ⊎ (result.status ≡ 8)))) }
+    ensures script { IfSome (I.left input.old) (λ script. IsScript script → result.status ≢ 1) }
 
     ensures told { N.told result.store ≡ N.told store }
     ensures kept { (result.peer ≡ peer) × (result.clock ≡ clock) }
@@ -87,19 +90,21 @@ pub fn hbase<
 }
 
 /// Runs a script: reads it from `input`, answers it from `store`, and writes the whole answer to `output`
-/// at the end. The one script is the line `list_snapshots`, with or without a line feed; it is answered by
-/// a line for each snapshot of the store, in byte order, and a line with their number.
+/// at the end. A script is any number of lines `list_snapshots`, each of which is answered by a line for each snapshot
+/// of the store, in byte order, and a line with their number. Empty lines and lines that begin with `#` ask for
+/// nothing. The store is listed once for all lines, and not for a script that asks for nothing.
 ///
 /// | status | when | output |
 /// |---|---|---|
-/// | 0 | the script was answered | the listing |
-/// | 1 | the input is another script | `error BadScript session 0 line 1 column 1` |
+/// | 0 | the script was answered | the listing, once a line |
+/// | 1 | the input has more than 16,777,216 bytes | `error TooLong` |
+/// | 1 | or else it has a bad line, of which this is the first | `error BadScript session 0 line <l> column <c>` |
 /// | 3 | the source failed | `error ReadFault` |
 /// | 4 | the sink failed | a front of what the others write |
 /// | 5 | the store failed | `error NsFault` |
 /// | 8 | no memory was left | `error NoMemory` |
 ///
-/// The input is read to its end, or to its 16th byte. Where it is another script or the source failed, the
+/// The input is read to its end, or to its byte 16,777,217. Where it is no script or the source failed, the
 /// store is as it was handed in. It waits for nobody.
 pub fn hbase_script<N: Namespace, P: Namespace, I: Source, O: Sink, C: Clock>(
     alloc: Global,
@@ -115,17 +120,18 @@ pub fn hbase_script<N: Namespace, P: Namespace, I: Source, O: Sink, C: Clock>(
         (sent_of O.written O.faults output.old output.new) result.status }
 
     // So this is what each status says.
-    ensures listed { result.status ≡ 0 → ReadsScript (I.left input.old) (I.left input.new)
-        × ListsSnapshots (N.told store) (O.written output.old) (O.written output.new) }
-    ensures bad_script { result.status ≡ 1 → ReadsAnother (I.left input.old) (I.left input.new) }
+    ensures listed { result.status ≡ 0
+        → AnswersScript (N.told store) (I.left input.old) (I.left input.new) (O.written output.old) (O.written output.new) }
+    ensures refused { result.status ≡ 1 → RefusesScript (I.left input.old) (I.left input.new) (O.written output.old) (O.written output.new) }
     ensures usage { result.status ≢ 2 }
     ensures read_fault { result.status ≡ 3 → Rose (I.faults input.old) (I.faults input.new) }
     ensures write_fault { result.status ≡ 4 → Rose (O.faults output.old) (O.faults output.new) }
     ensures ns_fault { result.status ≡ 5 → Rose (N.faults store) (N.faults result.store) }
 
-    // Other inputs are refused as such, unless a fault is.
+    // Other inputs are refused as such, unless a fault is, or there is no memory; and a script is not refused.
     ensures other_script { IfSome (I.left input.old) (λ script.
-        ¬ IsScript script → (result.status ≡ 1) ⊎ ((result.status ≡ 3) ⊎ (result.status ≡ 4))) }
+        ¬ IsScript script → (result.status ≡ 1) ⊎ ((result.status ≡ 3) ⊎ ((result.status ≡ 4) ⊎ (result.status ≡ 8)))) }
+    ensures script { IfSome (I.left input.old) (λ script. IsScript script → result.status ≢ 1) }
 
     ensures told { N.told result.store ≡ N.told store }
     ensures kept { (result.peer ≡ peer) × (result.clock ≡ clock) }
@@ -152,8 +158,8 @@ fn answer_script<I: Source, N: Namespace>(
     ensures told { N.told store.new ≡ N.told store.old }
 {
     let _ = options;
-    read_script(input)?;
-    list_snapshots(alloc, store)
+    let script = read_script(alloc, input)?;
+    answer_lines(alloc, lines_of(&script), store)
 }
 
 // Writes an answer, and gives the status of the run.

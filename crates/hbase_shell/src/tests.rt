@@ -128,9 +128,25 @@ fn lists_the_snapshots(rt: HostRuntime) -> Result<(), Fail> {
             written: b"0123456789012345678901234567890123456789012345678901234567890123456789012345678901234567890123456789\n1 snapshots\n",
             ..SCRIPT
         },
-        // The store is read once: a second call would fail.
+        // The store is read once for all lines: a second call would fail.
         Case {
+            input: b"list_snapshots\n# again\n\nlist_snapshots \r\n\r\nlist_snapshots",
+            places: &[b".hbase-snapshot/a/x"],
             store: &[2],
+            written: b"a\n1 snapshots\na\n1 snapshots\na\n1 snapshots\n",
+            ..SCRIPT
+        },
+        // Nothing is asked, so the store is not read.
+        Case {
+            input: b"",
+            store: &[1],
+            written: b"",
+            ..SCRIPT
+        },
+        Case {
+            input: b"# nothing\n\r\n",
+            store: &[1],
+            written: b"",
             ..SCRIPT
         },
     ];
@@ -151,15 +167,27 @@ fn says_why_it_lists_nothing(rt: HostRuntime) -> Result<(), Fail> {
     };
     let cases = [
         Case {
-            input: b"",
+            input: b"scan t",
             ..bad_script
         },
         Case {
-            input: b"list_snapshots\n\n\n",
+            input: b"list_snapshot",
+            written: b"error BadScript session 0 line 1 column 14\n",
             ..bad_script
         },
         Case {
-            input: b"list_snapshots\r\n",
+            input: b"list_snapshots\n\n#\nlist_snapshots now\nscan",
+            written: b"error BadScript session 0 line 4 column 16\n",
+            ..bad_script
+        },
+        Case {
+            input: b"list_snapshots\r\r\n",
+            store: &[1],
+            written: b"error BadScript session 0 line 1 column 15\n",
+            ..bad_script
+        },
+        Case {
+            input: b"=== a\n",
             ..bad_script
         },
         Case {
@@ -195,6 +223,41 @@ fn says_why_it_lists_nothing(rt: HostRuntime) -> Result<(), Fail> {
         },
     ];
     try_each(&rt, rt.alloc(), &cases)
+}
+
+// The status and the output of a run on an input of so many empty lines.
+fn long_answer(alloc: Global, length: usize) -> Result<(u8, Vec<u8>), Fail> {
+    let mut words = Vec::new(alloc);
+    for word in ["mem", "script"] {
+        words.push(String::from_str(alloc, word)?)?;
+    }
+    let mut bytes = Vec::new(alloc);
+    bytes.resize(length, b'\n')?;
+    let mut input = MemSource::new(bytes, 70_000, Vec::new(alloc));
+    let mut output = MemSink::new(alloc, 100, 9, Vec::new(alloc))?;
+    let outcome: Outcome<MemNs, MemNs, ListClock> = hbase(
+        alloc,
+        words.as_slice(),
+        &mut input,
+        &mut output,
+        store_of(alloc, &[], &[])?,
+        store_of(alloc, &[], &[])?,
+        ListClock::new(Vec::new(alloc)),
+        &OpenGate,
+    );
+    Ok((outcome.status, output.into_bytes()))
+}
+
+// An input of 16 MiB is read, and one of a byte more is too long.
+#[test]
+fn reads_up_to_16_mib(rt: HostRuntime) -> Result<(), Fail> {
+    let most = long_answer(rt.alloc(), 16_777_216)?;
+    assert_eq!(rt; most.0, 0);
+    assert_eq!(rt; most.1.as_slice(), b"".as_slice());
+    let more = long_answer(rt.alloc(), 16_777_217)?;
+    assert_eq!(rt; more.0, 1);
+    assert_eq!(rt; more.1.as_slice(), b"error TooLong\n".as_slice());
+    Ok(())
 }
 
 // The status and the output of the program on what the system gave as its words.

@@ -12,7 +12,7 @@ use Rattle.hbase_shell.proofs.run.hbase.Goals as goal
 
 pub returns-in-Ok-clause-listed : goal.returns-in-Ok-clause-listed
 returns-in-Ok-clause-listed g c status =
-    let listed = c.hbase_script.ensures.listed status in ((c.in-Ok.options, c.in-Ok.ensures.reads), listed.0, listed.1)
+    let listed = c.hbase_script.ensures.listed status in ((c.in-Ok.options, c.in-Ok.ensures.reads), listed)
 
 pub returns-in-Ok-clause-other_words : goal.returns-in-Ok-clause-other_words
 returns-in-Ok-clause-other_words g c other = absurd (other (c.in-Ok.options, c.in-Ok.ensures.reads))
@@ -39,3 +39,16 @@ other_script (Some script) status h = λ other. inr (inr h)
 pub returns-clause-other_script : goal.returns-clause-other_script
 returns-clause-other_script g c options line =
     other_script _ _ (status-plain options c.in-Err.error c.from-error.result _ _ (c.in-Err.ensures.plain options line) c.from-error.ensures c.finish-status.ensures)
+
+-- words that were not read are no script that is refused
+not_refused : (read : WordsError) (error : RunError) (sent : Sent) (status : ℕ) → error ≡ error_of read → IsWritten sent (Err error) status → status ≡ 1 → ⊥
+not_refused words.Usage error sent status is (inl whole) one = let two : status ≡ 2 = (rw is at whole.1) in omega (arith, one, two)
+not_refused words.NoMemory error sent status is (inl whole) one = let eight : status ≡ 8 = (rw is at whole.1) in omega (arith, one, eight)
+not_refused read error sent status is (inr front) one = omega (arith, front.2, one)
+
+script : (left : Option (List ℕ)) (status : ℕ) → (status ≡ 1 → ⊥) → IfSome left (λ script. IsScript script → status ≡ 1 → ⊥)
+script None status h = tt
+script (Some told) status h = λ is. h
+
+pub returns-clause-script : goal.returns-clause-script
+returns-clause-script g c = script _ _ (not_refused c.in-Err.error c.from-error.result _ _ c.from-error.ensures c.finish-status.ensures)
