@@ -11,10 +11,10 @@ ghost use Rattle.shell_words.specs.declared.options.Options.{Options};
 ghost use Rattle.shell_words.specs.Line.{IsPlainLine};
 ghost use Rattle.shell_words.specs.Reading.{AreTaken, Refuses};
 
+use crate::answer::{answer_lines, lines_of};
 use crate::outcome::Outcome;
 use crate::output::write_text;
 use crate::run_error::RunError;
-use crate::answer::{answer_lines, lines_of};
 use crate::script::read_script;
 use hb_causes::{Clock, Failed, Gate, Sink, Source};
 use hb_wire::Blob;

@@ -26,8 +26,10 @@ impl BadLine {
         ensures place { IfOk result (λ bad. (bad.session ≡ session) × (bad.line ≡ line) × (bad.column ≡ column)) }
         ensures text { IfOk result (λ bad. bad.text ≡ bad_line session line column) }
     {
-        let text =
-            format!(in alloc; "error BadScript session {} line {} column {}\n", session, line, column)?;
+        let text = format!(in alloc;
+            "error BadScript session {} line {} column {}\n",
+            session, line, column
+        )?;
         let text = Blob::copy_of(alloc, text.as_bytes())?;
         Ok(BadLine {
             session,

@@ -32,13 +32,13 @@ pub(crate) fn read_script<I: Source>(alloc: Global, input: &mut I) -> Result<Scr
     let bytes = read_input(alloc, input)?;
     match parse_script(alloc, &RUN_KINDS, bytes.as_slice(), false) {
         Ok(script) => Ok(script),
-        Err(ScriptError::BadLine {
-            session,
-            line,
-            column,
-        }) => Err(RunError::BadScript(BadLine::new(
-            alloc, session, line, column,
-        )?)),
+        Err(
+            ScriptError::BadLine {
+                session,
+                line,
+                column,
+            },
+        ) => Err(RunError::BadScript(BadLine::new(alloc, session, line, column)?)),
         Err(ScriptError::TooManySessions) => unreachable!(),
         Err(ScriptError::NoMemory) => Err(RunError::NoMemory),
     }

@@ -45,8 +45,7 @@ impl Plain {
         match event {
             Event::Put { region, .. } => *value_of(self.state.seq.as_slice(), region, &0)
                 < MAX_NUMBER,
-            Event::Draw(region) => *value_of(self.state.seq.as_slice(), region, &0)
-                < MAX_NUMBER,
+            Event::Draw(region) => *value_of(self.state.seq.as_slice(), region, &0) < MAX_NUMBER,
             _ => true,
         }
     }

@@ -66,7 +66,11 @@ impl Plain {
         let mem = cells_at(self.state.mem.as_slice(), region);
         let cells = joined(joined(Items::new(self.alloc), stable)?, mem)?;
         match self.table(&region.table) {
-            Some(found) => visible(self.alloc, found.schema.families.as_slice(), cells.as_slice()),
+            Some(found) => visible(
+                self.alloc,
+                found.schema.families.as_slice(),
+                cells.as_slice(),
+            ),
             None => visible(self.alloc, &[], cells.as_slice()),
         }
     }
