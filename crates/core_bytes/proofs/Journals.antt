@@ -34,7 +34,7 @@ ending_writes (step.Unpin actor) s e = record { file = tt; moved = tt; part = tt
 ending_writes _ s e = absurd e
 
 -- what a step writes in the one tree it writes in the other
-writes_other : (n : ℕ) (e : JournalEntry) (s : State) → AllowsEntry n e s → IsSoundState s → Writes e.step s.now → Writes e.step s.other
+pub writes_other : (n : ℕ) (e : JournalEntry) (s : State) → AllowsEntry n e s → IsSoundState s → Writes e.step s.now → Writes e.step s.other
 writes_other n e s a h m = elim a.1 [
   | inl c ↦ subst (Writes e.step) (sym (h.one c.0)) m
   | inr c ↦ ending_writes e.step s.other c.2
@@ -53,7 +53,7 @@ written_from n [] s w a f h k = k
 written_from n (e ∷ es) s w a f h k =
     written_from (n + 1) es (replay.step n s e) (few_after n e s a.0 w) a.1 f.1 (entry_kept n e s w a.0 h) (written_entry n e s w a.0 f.0 h k)
 
-writes_front : (k n : ℕ) (es : List JournalEntry) (s : State) → WriteFrom n s es → WriteFrom n s (take k es)
+pub writes_front : (k n : ℕ) (es : List JournalEntry) (s : State) → WriteFrom n s es → WriteFrom n s (take k es)
 writes_front zero n es s a = tt
 writes_front (suc k) n [] s a = tt
 writes_front (suc k) n (e ∷ es) s a = (a.0, writes_front k (n + 1) es (replay.step n s e) a.1)

@@ -1,20 +1,15 @@
 -- No half has the file of a link.
-use Rattle.std.proofs.Common.{◌≡◌, ℕ, true, false, List, ◌∷◌, ◌++◌, sym, ap, ◌∙◌, subst, inr}
-use Rattle.std.proofs.lemmas.List.{append_assoc}
+use Rattle.std.proofs.Common.{◌≡◌, true, false, sym, ap, ◌∙◌, subst, inr}
 use Rattle.hb_layout.specs.declared.base.Base.{Base}
 use Rattle.hb_names.specs.Encoded.{IsEncoded}
-use Rattle.hb_file_names.specs.LinkParts.{link_text}
 use Rattle.hb_file_names.specs.RefName.{IsRefName, ref_text}
 use Rattle.hb_file_names.proofs.TextLemmas.{IsRefName-file}
 use Rattle.hb_file_names.proofs.ToldLemmas.{links_told, halves_apart, file_alone}
 use Rattle.plain_model.specs.declared.region_key.RegionKey.{RegionKey}
 use Rattle.core_model.specs.declared.entry.Entry.{Entry}
 use Rattle.core_model.specs.declared.entry.Entry.TheVariants.{Own, Link, Half}
-use Rattle.core_model.specs.Entries.{file_of, is_half, link_name, IsBase, IsEntryIn}
-
--- a half of a link is named as a link of a half would be
-half_link : (b : Base) (p : List ℕ) → ref_text (link_name b) p ≡ link_text b.table b.region (ref_text b.name p)
-half_link b p = append_assoc b.table (61 ∷ (b.region ++ 45 ∷ b.name)) (46 ∷ p) ∙ ap (λ (x : List ℕ). b.table ++ 61 ∷ x) (append_assoc b.region (45 ∷ b.name) (46 ∷ p))
+use Rattle.core_model.specs.Entries.{file_of, is_half, IsBase, IsEntryIn}
+use Rattle.core_sound.proofs.NameFacts.{half_link}
 
 pub link_no_half : {X : Type 0} (r q : RegionKey) (b : Base) (e : Entry) → IsBase b → IsEntryIn q e → is_half e ≡ true → file_of r (Link b) ≡ file_of q e → X
 link_no_half r q b (Own c) n k h e = absurd (cc)

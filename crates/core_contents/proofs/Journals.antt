@@ -12,7 +12,7 @@ use Rattle.core_sound.proofs.Journals.{HasFew, few_after, allowed_other, entry_k
 use Rattle.core_contents.specs.Faithful.{IsFaithful, IsFaithfulState}
 use Rattle.core_contents.proofs.Kept.{faithful_kept}
 
-entry_faithful : (n : ℕ) (e : JournalEntry) (s : State) → HasFew n s → AllowsEntry n e s → IsSoundState s → IsFaithfulState s → IsFaithfulState (replay.step n s e)
+pub entry_faithful : (n : ℕ) (e : JournalEntry) (s : State) → HasFew n s → AllowsEntry n e s → IsSoundState s → IsFaithfulState s → IsFaithfulState (replay.step n s e)
 entry_faithful n e s w a h f = record {
   now = elim e.failed as (λ b. IsFaithful (unless b (after e.step) s.now)) [ true ↦ f.now | false ↦ faithful_kept e.step s.now w.now_limit a.0.1 h.now f.now ];
   other = faithful_kept e.step s.other w.other_limit (allowed_other n e s a h) h.other f.other;

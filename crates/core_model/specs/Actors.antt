@@ -100,6 +100,12 @@ pub record IsPlanned (plans : ℕ → Plan) (r : RegionKey) : Type 0 where
   pub region : Member info (plans actor).regions
   pub key : key_of info ≡ r
 
+-- this actor is to build it
+pub record IsToBuild (plans : ℕ → Plan) (a : ℕ) (r : RegionKey) : Type 0 where
+  pub info : RegionInfo
+  pub region : Member info (plans a).regions
+  pub key : key_of info ≡ r
+
 -- the region is in the newest set of its table, or is being built
 abbrev pub Counts : Names PlainTable → (ℕ → Plan) → RegionKey → Type 0
 Counts tables plans r = IsRegion tables r ⊎ IsPlanned plans r

@@ -27,7 +27,7 @@ use Rattle.core_model.specs.Keys.{home}
 use Rattle.core_model.specs.Disk.{Disk, live_of, backs_of}
 use Rattle.core_model.specs.Entries.{base_of, file_of, is_own, is_half, IsBase, IsEntryIn}
 use Rattle.core_model.specs.Ops.{old_site}
-use Rattle.core_model.specs.Actors.{IsLive, HasJob, HasHold, IsRegion, IsPinned, IsFree, Plans}
+use Rattle.core_model.specs.Actors.{IsLive, HasJob, HasHold, IsRegion, IsPinned, IsFree, IsToBuild, Plans}
 use Rattle.core_model.specs.BulkParts.{AllCommitted}
 use Rattle.core_model.specs.Recipes.{HasCells, staged_cells}
 use Rattle.core_model.specs.FileChanges.{set_number}
@@ -125,8 +125,10 @@ pub record CanArchive (a : ℕ) (b : Base) (s : Parts) : Type 0 where
 
 -- ---- links and halves
 
+-- plans know an entry's region by its encoded name; that it is one to be built here, of this table, is asked beside it
 pub record CanBackRef (a : ℕ) (b : Base) (r : RegionKey) (s : Parts) : Type 0 where
   pub live : IsLive s.plain.live a
+  pub built : IsToBuild s.plans a r
   pub entry : Entry
   pub planned : Plans s.plans a r entry
   pub reads : base_of entry ≡ b
@@ -137,6 +139,7 @@ pub record CanBackRef (a : ℕ) (b : Base) (r : RegionKey) (s : Parts) : Type 0 
 -- the entry is planned, its back reference stands, its file does not
 pub record CanRefer (a : ℕ) (e : Entry) (r : RegionKey) (s : Parts) : Type 0 where
   pub live : IsLive s.plain.live a
+  pub built : IsToBuild s.plans a r
   pub planned : Plans s.plans a r e
   pub names : IsEntryIn r e
   pub back : FileState

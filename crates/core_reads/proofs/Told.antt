@@ -33,10 +33,10 @@ some_is : {A : Type 0} {x y : A} → Some x ≡ Some y → x ≡ y
 some_is e = (cc)
 
 -- one tree has one file at a site
-same_site_file : (tree : Tree) (s o : Parts) → IsShown tree s → IsShown tree o → (p : Site) → s.disk p ≡ o.disk p
+pub same_site_file : (tree : Tree) (s o : Parts) → IsShown tree s → IsShown tree o → (p : Site) → s.disk p ≡ o.disk p
 same_site_file tree s o h k p = sym (h.shows.at p) ∙ k.shows.at p
 
-same_files : (m n : Option FileState) (f g : FileState) → m ≡ n → m ≡ Some f → n ≡ Some g → f ≡ g
+pub same_files : (m n : Option FileState) (f g : FileState) → m ≡ n → m ≡ Some f → n ≡ Some g → f ≡ g
 same_files m n f g e i j = some_is (sym i ∙ e ∙ j)
 
 none_some : {P : Type 0} (m n : Option FileState) (g : FileState) → m ≡ n → m ≡ None → n ≡ Some g → P
@@ -60,7 +60,7 @@ same_set t fs gs x y e u v f i p g j q = elim (cases_order x.number y.number) as
 abbrev Says : (ℕ → Option FileState) → List ℕ → Option RegionSet → Type 0
 Says files t o = (x : RegionSet) → o ≡ Some x → (f : FileState) × (files x.number ≡ Some f) × IsSetFileOf t f.bytes x
 
-same_sets : (t : List ℕ) (fs gs : ℕ → Option FileState) (a b : Option RegionSet) → ((m : ℕ) → fs m ≡ gs m) → IsAbove fs (set_number a) → IsAbove gs (set_number b) → Says fs t a → Says gs t b → a ≡ b
+pub same_sets : (t : List ℕ) (fs gs : ℕ → Option FileState) (a b : Option RegionSet) → ((m : ℕ) → fs m ≡ gs m) → IsAbove fs (set_number a) → IsAbove gs (set_number b) → Says fs t a → Says gs t b → a ≡ b
 same_sets t fs gs None None e u v p q = refl
 same_sets t fs gs None (Some y) e u v p q = let w = q y refl in none_some (fs y.number) (gs y.number) w.0 (e y.number) (u y.number (set_positive t y w.0.bytes w.2)) w.1
 same_sets t fs gs (Some x) None e u v p q = let w = p x refl in none_some (gs x.number) (fs x.number) w.0 (sym (e x.number)) (v x.number (set_positive t x w.0.bytes w.2)) w.1
@@ -87,7 +87,7 @@ same_list fs gs l m e u v f i p g j q = elim (cases_order l.number m.number) as 
   | inr (inr k) ↦ none_some (gs l.number) (fs l.number) f (sym (e l.number)) (v l.number k) i
 ]
 
-same_lists : (fs gs : ℕ → Option FileState) (l m : RegionFiles) → ((n : ℕ) → fs n ≡ gs n) → IsAbove fs l.number → IsAbove gs m.number → IsStored fs l → IsStored gs m → region_list l ≡ region_list m
+pub same_lists : (fs gs : ℕ → Option FileState) (l m : RegionFiles) → ((n : ℕ) → fs n ≡ gs n) → IsAbove fs l.number → IsAbove gs m.number → IsStored fs l → IsStored gs m → region_list l ≡ region_list m
 same_lists fs gs l m e u v (unwritten i) (unwritten j) = ap region_list (i ∙ sym j)
 same_lists fs gs l m e u v (unwritten i) (written g j q) =
     none_some (fs m.number) (gs m.number) g (e m.number) (u m.number (subst (λ (x : RegionFiles). x.number < m.number) (sym i) (list_positive m g.bytes q))) j
@@ -101,7 +101,7 @@ lists_told tree s o r h k c d = same_lists (lists_of s.disk r) (lists_of o.disk 
 
 -- ---- snapshots
 
-same_there : (n : List ℕ) (i j : Option FileState) (a b : Option Snapshot) → i ≡ j → (a ≡ None → i ≡ None) → (b ≡ None → j ≡ None)
+pub same_there : (n : List ℕ) (i j : Option FileState) (a b : Option Snapshot) → i ≡ j → (a ≡ None → i ≡ None) → (b ≡ None → j ≡ None)
     → ((x : Snapshot) → a ≡ Some x → (f : FileState) × (i ≡ Some f)) → ((x : Snapshot) → b ≡ Some x → (f : FileState) × (j ≡ Some f)) → is_some a ≡ is_some b
 same_there n i j None None e p q u v = refl
 same_there n i j None (Some y) e p q u v = let w = v y refl in none_some i j w.0 e (p refl) w.1
@@ -123,7 +123,7 @@ zip_alike (m ∷ ms) (r ∷ rs) (q ∷ qs) h k = (
   zip_alike ms rs qs h.1 k.1,
 )
 
-same_manifest : (b c : List ℕ) (x y : Snapshot) → b ≡ c → IsManifestOf b x → IsManifestOf c y → (x.schema ≡ y.schema) × AllZip IsAlike x.regions y.regions
+pub same_manifest : (b c : List ℕ) (x y : Snapshot) → b ≡ c → IsManifestOf b x → IsManifestOf c y → (x.schema ≡ y.schema) × AllZip IsAlike x.regions y.regions
 same_manifest b c x y e p q =
     let m : p.manifest ≡ q.manifest = OneValue-IsManifest c p.manifest q.manifest (subst (λ bytes. IsManifest bytes p.manifest) e p.message) q.message in (
       sym p.of_schema ∙ ap (λ (v : Record). v.schema) m ∙ q.of_schema,

@@ -56,11 +56,11 @@ pub base_path : (b c : Base) → b.table ≡ c.table → b.region ≡ c.region �
 base_path b c p q r s = λ i. record { table = p i; region = q i; family = r i; name = s i }
 
 -- a half of a link is named as a link of a half would be
-half_link : (b : Base) (p : List ℕ) → ref_text (link_name b) p ≡ link_text b.table b.region (ref_text b.name p)
+pub half_link : (b : Base) (p : List ℕ) → ref_text (link_name b) p ≡ link_text b.table b.region (ref_text b.name p)
 half_link b p = append_assoc b.table (61 ∷ (b.region ++ 45 ∷ b.name)) (46 ∷ p) ∙ ap (λ (x : List ℕ). b.table ++ 61 ∷ x) (append_assoc b.region (45 ∷ b.name) (46 ∷ p))
 
 -- a link's name has its base's names, and what stands behind it
-link_parts : (b c : Base) (x y : List ℕ) → IsBase b → IsBase c → link_text b.table b.region x ≡ link_text c.table c.region y → (b.table ≡ c.table) × (b.region ≡ c.region) × (x ≡ y)
+pub link_parts : (b c : Base) (x y : List ℕ) → IsBase b → IsBase c → link_text b.table b.region x ≡ link_text c.table c.region y → (b.table ≡ c.table) × (b.region ≡ c.region) × (x ≡ y)
 link_parts b c x y h k e = links_told b.table c.table b.region c.region x y h.names.table k.names.table h.names.region k.names.region e
 
 -- no file is named as a half of one
@@ -68,7 +68,7 @@ file_no_half : {P : Type 0} (b c : Base) (p : List ℕ) → IsBase b → IsBase 
 file_no_half b c p h k n e = absurd (file_alone b.name h.file (inr (subst IsRefName (sym e) (IsRefName-file c.name p k.file n))))
 
 -- the region that a half of an own file is of
-parent_of : (r : RegionKey) (b : Base) (p : List ℕ) → IsBase b → home b ≡ record { table = r.table; region = p } → IsEncoded p
+pub parent_of : (r : RegionKey) (b : Base) (p : List ℕ) → IsBase b → home b ≡ record { table = r.table; region = p } → IsEncoded p
 parent_of r b p h e = subst IsEncoded (ap (λ (k : RegionKey). k.region) e) h.names.region
 
 -- links and halves with one file have one base
