@@ -16,6 +16,7 @@ pub mod Kept
 pub mod MadeStays
 pub mod Majored
 pub mod Planned
+pub mod PlannedEach
 pub mod PlannedFor
 pub mod SeenFacts
 pub mod Tools

@@ -20,8 +20,7 @@ use Rattle.core_model.specs.declared.region_files.RegionFiles.{RegionFiles}
 use Rattle.core_model.specs.declared.snapshot.CopiedRegion.{CopiedRegion}
 use Rattle.core_model.specs.declared.snapshot.Snapshot.{Snapshot}
 use Rattle.core_model.specs.Actors.{HasHold, IsRegion, last_pin}
-use Rattle.core_model.specs.Entries.{Made, base_of, cells_in}
-use Rattle.core_model.specs.ListGuards.{FitsFamily}
+use Rattle.core_model.specs.Entries.{Made, base_of, cells_of, cells_in}
 use Rattle.core_model.specs.PassChanges.{snapshot_entries}
 use Rattle.core_model.specs.StartGuards.{is_major}
 use Rattle.core_model.specs.State.{Pinned}
@@ -74,10 +73,14 @@ pub record HasFronts (made : Made) (lists : RegionKey → RegionFiles) (pins : �
   pub at : (a : ℕ) (r : RegionKey) (pin : Pinned) → last_pin (pins a) r ≡ Some pin → pin.fresh ≡ true → is_major (job_of p.live a) ≡ true → HasHold p.live a (holds.Compact r)
       → IsRegion p.tables r × HasFront made (lists r).entries (p.stable r) pin.entries (unwrap_or (p.noted a r) 0)
 
--- the cells of the entries of lists, snapshots, captures, plans and pins are of their families
+-- the cells of an entry are of its family
+abbrev pub FitsEntry : Made → Entry → Type 0
+FitsEntry made e = (c : Cell) → Member c (cells_of made e) → c.family ≡ (base_of e).family
+
+-- so are those of the entries of lists, snapshots, captures, plans and pins
 pub record HasFamilies (made : Made) (tables : Names PlainTable) (lists : RegionKey → RegionFiles) (snapshots : Names Snapshot) (captures : ℕ → RegionKey → Option RegionFiles) (plans : ℕ → Plan) (pins : ℕ → List Pinned) : Type 0 where
-  pub listed : (r : RegionKey) (e : Entry) → IsRegion tables r → Member e (lists r).entries → FitsFamily made (base_of e)
-  pub completed : (name : List ℕ) (x : Snapshot) (e : Entry) → get snapshots name ≡ Some x → Member e (snapshot_entries x) → FitsFamily made (base_of e)
-  pub captured : (a : ℕ) (r : RegionKey) (l : RegionFiles) (e : Entry) → captures a r ≡ Some l → Member e l.entries → FitsFamily made (base_of e)
-  pub planned : (a : ℕ) (x : List ℕ × Entry) → Member x (plans a).entries → FitsFamily made (base_of x.1)
-  pub pinned : (a : ℕ) (p : Pinned) (e : Entry) → Member p (pins a) → Member e p.entries → FitsFamily made (base_of e)
+  pub listed : (r : RegionKey) (e : Entry) → IsRegion tables r → Member e (lists r).entries → FitsEntry made e
+  pub completed : (name : List ℕ) (x : Snapshot) (e : Entry) → get snapshots name ≡ Some x → Member e (snapshot_entries x) → FitsEntry made e
+  pub captured : (a : ℕ) (r : RegionKey) (l : RegionFiles) (e : Entry) → captures a r ≡ Some l → Member e l.entries → FitsEntry made e
+  pub planned : (a : ℕ) (x : List ℕ × Entry) → Member x (plans a).entries → FitsEntry made x.1
+  pub pinned : (a : ℕ) (p : Pinned) (e : Entry) → Member p (pins a) → Member e p.entries → FitsEntry made e

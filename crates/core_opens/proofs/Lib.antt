@@ -1,0 +1,6 @@
+mod Entered
+mod Beside
+mod Read
+mod Opens
+mod Lives
+mod Faultless

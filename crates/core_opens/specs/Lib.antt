@@ -1,0 +1,5 @@
+pub mod Fits
+pub mod Valid
+pub mod Faults
+pub mod Begins
+pub mod Laws

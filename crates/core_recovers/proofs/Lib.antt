@@ -1,0 +1,4 @@
+mod OneEntry
+mod FamilyParts
+pub mod OneReading
+pub mod Recovered

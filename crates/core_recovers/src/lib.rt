@@ -1,0 +1,4 @@
+//! What a store's tree gives back of the state that led to it.
+#![tactic(auto)]
+
+pub mod laws;
