@@ -1,5 +1,5 @@
 -- What holds of each entry of snapshots and lists, and goes over to copies and halves, holds of each planned entry.
-use Rattle.std.proofs.Common.{◌≡◌, ℕ, Bool, true, false, List, [], ◌∷◌, Option, Some, None, refl, subst, inl, inr, ap, ◌∙◌, sym}
+use Rattle.std.proofs.Common.{◌≡◌, ℕ, Bool, true, false, List, [], ◌∷◌, Option, Some, None, refl, subst, inl, inr, ap, ◌∙◌}
 use Rattle.std.specs.Prelude.{map, zip}
 use Rattle.std.specs.List.{flat_map}
 use Rattle.std.specs.FinMap.{get}

@@ -1,5 +1,5 @@
 -- Halves of one base and parent among entries that fit are one entry.
-use Rattle.std.proofs.Common.{◌≡◌, ◌⊎◌, ℕ, true, false, List, [], ◌∷◌, Some, None, refl, sym, ap, ◌∙◌, subst, inl, inr}
+use Rattle.std.proofs.Common.{◌≡◌, ◌⊎◌, ℕ, true, List, [], ◌∷◌, sym, ap, ◌∙◌, subst, inl, inr}
 use Rattle.cell_sight.specs.Member.{Member}
 use Rattle.hb_layout.specs.declared.base.Base.{Base}
 use Rattle.core_model.specs.declared.entry.Entry.{Entry}
@@ -8,6 +8,7 @@ use Rattle.core_model.specs.Entries.{is_half, side_of}
 use Rattle.core_sound.proofs.HoldsFound.{some_is}
 use Rattle.core_sound.proofs.Sources.{each-member}
 use Rattle.core_points.specs.Points.{half_key, HaveOneSide}
+use Rattle.core_points.proofs.Pointers.{half_too}
 use Rattle.core_opens.specs.Fits.{EachTwo, MayStandBeside}
 
 two_members : {X : Type 0} (R : X → X → Type 0) (xs : List X) (x y : X) → EachTwo R xs → Member x xs → Member y xs → (x ≡ y) ⊎ (R x y ⊎ R y x)
@@ -26,13 +27,6 @@ not_beside (Half b l p r t) (Half c n q s u) h k m = elim m [
   | inl d ↦ absurd (d (ap (λ (v : Base × List ℕ). v.0) (some_is k)))
   | inr d ↦ absurd (d (ap (λ (v : Base × List ℕ). v.1) (some_is k)))
 ]
-
-half_too : (x y : Entry) → is_half x ≡ true → half_key x ≡ half_key y → is_half y ≡ true
-half_too (Own b) y h k = absurd (cc)
-half_too (Link b) y h k = absurd (cc)
-half_too (Half b l p w t) (Own c) h k = absurd (cc)
-half_too (Half b l p w t) (Link c) h k = absurd (cc)
-half_too (Half b l p w t) (Half c m q u v) h k = refl
 
 pub one_side : (es : List Entry) → EachTwo MayStandBeside es → HaveOneSide (λ e. Member e es)
 one_side es h x y m n u v = elim (two_members MayStandBeside es x y h m n) [

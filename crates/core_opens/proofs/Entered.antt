@@ -1,5 +1,5 @@
 -- Entries of maps that are made of lists, and items that a filter gives.
-use Rattle.std.proofs.Common.{◌≡◌, ◌⊎◌, ℕ, Bool, true, false, cond, List, [], ◌∷◌, Option, Some, None, refl, sym, ap, ◌∙◌, subst, inl, inr}
+use Rattle.std.proofs.Common.{◌≡◌, ◌⊎◌, ℕ, true, false, cond, List, [], ◌∷◌, Option, Some, None, refl, sym, ap, ◌∙◌, subst, inl, inr}
 use Rattle.std.specs.Prelude.{map, option_map, filter_map}
 use Rattle.std.specs.List.{cons_option}
 use Rattle.std.specs.FinMap.{get, find, from_entries, get-from_entries}

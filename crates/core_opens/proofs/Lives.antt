@@ -1,5 +1,5 @@
 -- In a life each opening begins with a stop of the state before it.
-use Rattle.std.proofs.Common.{◌≡◌, ◌⊎◌, ℕ, Bool, true, false, List, [], ◌∷◌, take, Option, Some, None, refl, sym, ap, ◌∙◌, subst, inl, inr}
+use Rattle.std.proofs.Common.{◌≡◌, Bool, true, false, List, [], ◌∷◌, take, Option, Some, None, refl, sym, ap, ◌∙◌, subst, inl, inr}
 use Rattle.std.specs.Prelude.{length}
 use Rattle.std.specs.FinMap.{get}
 use Rattle.std.specs.List.{AllZip}
@@ -13,7 +13,6 @@ use Rattle.plain_model.specs.After.{stopped}
 use Rattle.plain_model.specs.Names.{Names}
 use Rattle.plain_model.specs.Plain.{Plain}
 use Rattle.core_model.specs.declared.journal.Journal.{Journal}
-use Rattle.core_model.specs.declared.opening.Opening.{Opening}
 use Rattle.core_model.specs.Actors.{InSet, IsRegion}
 use Rattle.core_model.specs.Opened.{opened}
 use Rattle.core_model.specs.Replay.{replay}
@@ -22,7 +21,7 @@ use Rattle.core_reads.specs.Laws.{IsLife}
 use Rattle.core_recovers.specs.Recovers.{AreSame, AreSameCopies, AreSameSnapshots, Recovers}
 use Rattle.core_recovers.proofs.OneReading.{one_told}
 use Rattle.core_recovers.proofs.Recovered.{journal_recovers}
-use Rattle.core_opens.specs.Begins.{BeginsWell, BeginsWithStop, Follows, GoesOn, IsJournal, LivesGoOn}
+use Rattle.core_opens.specs.Begins.{BeginsWell, BeginsWithStop, Follows, IsJournal, LivesGoOn}
 use Rattle.core_opens.proofs.Opens.{begins_valid}
 
 -- ---- states that hold the same

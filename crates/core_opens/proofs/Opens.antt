@@ -1,11 +1,10 @@
 -- An opening that read a valid tree begins with a state of which all is known, and which is what the tree gives back.
-use Rattle.std.proofs.Common.{◌≡◌, ℕ, Bool, true, false, cond, List, [], ◌∷◌, Option, Some, None, refl, sym, ap, ◌∙◌, subst, inl, inr}
-use Rattle.std.specs.Prelude.{is_some, map}
+use Rattle.std.proofs.Common.{◌≡◌, ℕ, Bool, true, false, List, [], ◌∷◌, Option, Some, None, refl, sym, ap, ◌∙◌, subst, inl, inr}
+use Rattle.std.specs.Prelude.{is_some}
 use Rattle.std.specs.List.{flat_map}
-use Rattle.std.specs.FinMap.{contains_key, from_entries, get}
+use Rattle.std.specs.FinMap.{from_entries, get}
 use Rattle.cell_sight.specs.Member.{Member}
 use Rattle.cell_sight.proofs.Counts.{same-refl, same-equal}
-use Rattle.hb_cell.specs.declared.cell.Cell.{Cell}
 use Rattle.hb_cell.specs.Order.{bytes_cmp}
 use Rattle.hb_layout.specs.declared.base.Base.{Base}
 use Rattle.hb_layout.specs.Lawful.{IsLawful}
@@ -13,7 +12,6 @@ use Rattle.ns_tree.specs.declared.file.FileState.{FileState}
 use Rattle.ns_tree.specs.Tree.{Tree, IsTree}
 use Rattle.plain_model.specs.declared.parts.PlainSnapshot.{PlainSnapshot}
 use Rattle.plain_model.specs.declared.region_key.RegionKey.{RegionKey}
-use Rattle.plain_model.specs.Keys.{key_of}
 use Rattle.core_model.specs.declared.entry.Entry.{Entry}
 use Rattle.core_model.specs.declared.entry.Entry.TheVariants as entries
 use Rattle.core_model.specs.declared.found.Found.{Found}
@@ -36,7 +34,6 @@ use Rattle.core_sound.proofs.HoldsFound.{some_is}
 use Rattle.core_sound.proofs.Lists.{member-append}
 use Rattle.core_sound.proofs.Tests.{cond_cases}
 use Rattle.core_trees.specs.Filed.{IsAbove, IsFiled}
-use Rattle.core_trees.specs.Trees.{BeginsWith}
 use Rattle.core_bytes.specs.Recorded.{IsInfoOf, IsManifestOf}
 use Rattle.core_bytes.specs.Stored.{IsStored, table_in_set}
 use Rattle.core_bytes.specs.Written.{IsMade, IsWritten}
@@ -45,8 +42,8 @@ use Rattle.core_contents.specs.Faithful.{IsFaithful}
 use Rattle.core_points.specs.Points.{AreEntries, IsPointed}
 use Rattle.core_recovers.specs.Reading.{IsIn, InReading, by_list, by_snapshot}
 use Rattle.core_recovers.specs.Recovers.{Recovers}
-use Rattle.core_opens.specs.Begins.{IsFound, HasNewEpoch, CanBegin, BeginsWell, BeginsValid}
-use Rattle.core_opens.specs.Valid.{HasRow, IsValid}
+use Rattle.core_opens.specs.Begins.{IsFound, HasNewEpoch, BeginsWell, BeginsValid}
+use Rattle.core_opens.specs.Valid.{IsValid}
 use Rattle.core_opens.proofs.Beside.{one_side}
 use Rattle.core_opens.proofs.Read.{set_is, snapshot_is, tables_in, table_is, own_table, copy_is}
 

@@ -1,6 +1,6 @@
 -- What is wrong at a place of a tree, and which of it comes first. A fault that other files have a part in has what these say,
 -- so it is judged where they are in their grammars alone.
-use Rattle.std.specs.Prelude.{◌≡◌, ◌≢◌, ◌⊎◌, ℕ, ◌<◌, Bool, true, false, List, [], Option, Some, None}
+use Rattle.std.specs.Prelude.{◌≡◌, ◌≢◌, ℕ, ◌<◌, Bool, true, false, List, [], Option, Some, None}
 use Rattle.std.specs.FinMap.{contains_key}
 use Rattle.cell_sight.specs.Member.{Member}
 use Rattle.commit_list.specs.declared.region_list.RegionList.{RegionList}

@@ -1,5 +1,5 @@
 -- Each step keeps that the files in the directories of regions that are being built are those of planned entries.
-use Rattle.std.proofs.Common.{◌≡◌, ℕ, ◌==◌, true, false, cond, List, ◌++◌, Some, refl, sym, ap, ◌∙◌, subst, inl, inr}
+use Rattle.std.proofs.Common.{◌≡◌, ℕ, ◌==◌, true, false, cond, List, ◌++◌, Some, refl, sym, ap, ◌∙◌, subst}
 use Rattle.cell_sight.specs.Member.{Member}
 use Rattle.hb_layout.specs.declared.base.Base.{Base}
 use Rattle.hb_records.specs.declared.region_info.RegionInfo.{RegionInfo}
@@ -23,7 +23,6 @@ use Rattle.core_model.specs.Sound.{IsSound}
 use Rattle.core_model.specs.StartGuards.{by_directory, live_file}
 use Rattle.core_model.specs.State.{Parts, no_plan}
 use Rattle.core_sound.proofs.Lists.{member-front}
-use Rattle.core_sound.proofs.Tests.{same_number}
 use Rattle.core_sound.proofs.Vacant.{drawn_free}
 use Rattle.core_bytes.specs.FileOf.{IsPointer}
 use Rattle.core_bytes.specs.Written.{WritesFile}

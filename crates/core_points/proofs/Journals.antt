@@ -1,15 +1,15 @@
 -- In each state of a journal of allowed entries the files of halves say their rows and sides.
-use Rattle.std.proofs.Common.{◌≡◌, ◌≤◌, ℕ, ◌+◌, true, false, cond, List, [], ◌∷◌, take, Some, None, sym, ◌∙◌, subst}
+use Rattle.std.proofs.Common.{◌≡◌, ℕ, ◌+◌, true, false, List, [], ◌∷◌, take, Some, None, sym, ◌∙◌, subst}
 use Rattle.std.specs.FinMap.{empty, get, get-empty}
 use Rattle.hb_cell.specs.Order.{bytes_cmp}
 use Rattle.core_model.specs.declared.journal.JournalEntry.{JournalEntry}
 use Rattle.core_model.specs.declared.opening.Opening.{Opening}
 use Rattle.core_model.specs.declared.step.Step.{Step}
 use Rattle.core_model.specs.Actors.{IsRegion}
-use Rattle.core_model.specs.Allows.{Allows, AllowsEntry, AllowsFrom}
+use Rattle.core_model.specs.Allows.{AllowsEntry, AllowsFrom}
 use Rattle.core_model.specs.Replay.{after, unless, replay_from, begun, replay}
 use Rattle.core_model.specs.Replay as replay
-use Rattle.core_model.specs.Sound.{IsSound, IsSoundState}
+use Rattle.core_model.specs.Sound.{IsSoundState}
 use Rattle.core_model.specs.State.{Parts, State}
 use Rattle.core_sound.proofs.Journals.{HasFew, few_after, few-begun, allowed_other, entry_kept, sound-begun, allows_front}
 use Rattle.core_sound.proofs.Kept.{sound_kept}
@@ -17,7 +17,7 @@ use Rattle.core_sound.proofs.NeverAgain.{tables_after}
 use Rattle.core_bytes.specs.Laws.{WriteFrom}
 use Rattle.core_bytes.specs.Written.{Writes}
 use Rattle.core_bytes.proofs.Journals.{writes_other, writes_front}
-use Rattle.core_contents.specs.Faithful.{IsFaithful, IsFaithfulState}
+use Rattle.core_contents.specs.Faithful.{IsFaithfulState}
 use Rattle.core_contents.proofs.Journals.{entry_faithful}
 use Rattle.core_points.specs.Laws.{KeepsPointed, LeadsToPointed, BeginsPointed}
 use Rattle.core_points.specs.Points.{IsPointed, IsPointedState}

@@ -1,5 +1,5 @@
 -- Each step keeps that the files of listed halves say their rows and sides.
-use Rattle.std.proofs.Common.{◌≡◌, ℕ, true, false, cond, List, [], ◌∷◌, ◌++◌, Some, None, refl, sym, ap, ◌∙◌, subst, inl, inr}
+use Rattle.std.proofs.Common.{◌≡◌, ℕ, true, false, cond, List, ◌++◌, Some, None, refl, sym, ap, ◌∙◌, subst, inl, inr}
 use Rattle.std.specs.Prelude.{map}
 use Rattle.cell_sight.specs.Member.{Member}
 use Rattle.hb_cell.specs.declared.cell.Cell.{Cell}
@@ -16,12 +16,12 @@ use Rattle.core_model.specs.declared.step.Step.{Step}
 use Rattle.core_model.specs.declared.step.Step.TheVariants as step
 use Rattle.core_model.specs.declared.targets.Why.{Why}
 use Rattle.core_model.specs.declared.targets.Why.TheVariants as why
-use Rattle.core_model.specs.Actors.{Counts, IsRegion, Plans}
+use Rattle.core_model.specs.Actors.{Counts, IsRegion}
 use Rattle.core_model.specs.Allows.{Allows}
 use Rattle.core_model.specs.Disk.{disk_after, live_of}
 use Rattle.core_model.specs.Entries.{file_of, is_half}
 use Rattle.core_model.specs.FileChanges.{lists_by}
-use Rattle.core_model.specs.ListGuards.{AllowsList, Merge}
+use Rattle.core_model.specs.ListGuards.{AllowsList}
 use Rattle.core_model.specs.Ops.{op_of}
 use Rattle.core_model.specs.Sound.{IsSound}
 use Rattle.core_model.specs.State.{Parts}

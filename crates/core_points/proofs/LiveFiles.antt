@@ -1,5 +1,5 @@
 -- Each file in a family's directory stood there before a step, or is one that the step makes.
-use Rattle.std.proofs.Common.{◌≡◌, ℕ, true, cond, List, [], Option, Some, None, sym, ap, ◌∙◌, subst, refl}
+use Rattle.std.proofs.Common.{◌≡◌, ℕ, List, [], Some, None, sym, ap, ◌∙◌, subst}
 use Rattle.std.specs.Prelude.{option_map}
 use Rattle.hb_layout.specs.declared.base.Base.{Base}
 use Rattle.ns_tree.specs.declared.file.FileState.{FileState}

@@ -14,7 +14,6 @@ use Rattle.plain_model.specs.LiveEvents.{job_of}
 use Rattle.core_model.specs.declared.entry.Entry.{Entry}
 use Rattle.core_model.specs.declared.entry.Entry.TheVariants.{Own, Link, Half}
 use Rattle.core_model.specs.declared.plan.Plan.{Plan}
-use Rattle.core_model.specs.declared.snapshot.CopiedRegion.{CopiedRegion}
 use Rattle.core_model.specs.declared.snapshot.Snapshot.{Snapshot}
 use Rattle.core_model.specs.ActorFacts.{ComesFrom}
 use Rattle.core_model.specs.Actors.{Plans}

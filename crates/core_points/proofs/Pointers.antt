@@ -1,5 +1,5 @@
 -- Entries with one file and one side have one pointer.
-use Rattle.std.proofs.Common.{◌≡◌, ℕ, Bool, true, false, List, Option, Some, None, refl, sym, ap, ◌∙◌, subst}
+use Rattle.std.proofs.Common.{◌≡◌, ℕ, Bool, true, false, List, Some, refl, sym, ap, ◌∙◌, subst}
 use Rattle.hb_file_names.specs.RefName.{ref_text}
 use Rattle.hb_file_names.proofs.ToldLemmas.{references_told, halves_apart}
 use Rattle.hb_layout.specs.declared.base.Base.{Base}
@@ -47,3 +47,11 @@ pointer_as r (Half b l u row top) (Half c m v start high) bytes n k e s p =
     let base = apart_bases r r (Half b l u row top) (Half c m v start high) n k refl refl e in
     let names = alike_halves r b c l m u v row start top high n k (ap (λ (f : Base). f.name) e) in
     pointer_side (Half b l u row top) (Half c m v start high) bytes refl refl (s refl (λ i. Some (base i, names.1 i))) p
+
+-- what is of one base and parent with a half is a half
+pub half_too : (x y : Entry) → is_half x ≡ true → half_key x ≡ half_key y → is_half y ≡ true
+half_too (Own b) y h k = absurd (cc)
+half_too (Link b) y h k = absurd (cc)
+half_too (Half b l p w t) (Own c) h k = absurd (cc)
+half_too (Half b l p w t) (Link c) h k = absurd (cc)
+half_too (Half b l p w t) (Half c m q u v) h k = refl

@@ -1,5 +1,5 @@
 -- Each step keeps that the entries of lists, captures and snapshots are their region's, and their halves of one side.
-use Rattle.std.proofs.Common.{◌≡◌, ℕ, ◌&&◌, ◌==◌, true, false, cond, List, [], ◌∷◌, Option, Some, None, refl, sym, ap, ◌∙◌, subst, inl, inr}
+use Rattle.std.proofs.Common.{◌≡◌, ℕ, ◌&&◌, ◌==◌, cond, List, [], ◌∷◌, Option, Some, None, refl, sym, ap, ◌∙◌, subst, inl, inr}
 use Rattle.std.specs.Prelude.{filter_map, option_map}
 use Rattle.std.specs.List.{cons_option}
 use Rattle.cell_sight.specs.Member.{Member}
@@ -8,7 +8,6 @@ use Rattle.plain_model.specs.declared.region_key.RegionKey.{RegionKey}
 use Rattle.plain_model.specs.Found.{open_in}
 use Rattle.plain_model.specs.Keys.{key_of, same_key}
 use Rattle.core_model.specs.declared.entry.Entry.{Entry}
-use Rattle.core_model.specs.declared.entry.Entry.TheVariants as entries
 use Rattle.core_model.specs.declared.region_files.RegionFiles.{RegionFiles}
 use Rattle.core_model.specs.declared.snapshot.CopiedRegion.{CopiedRegion}
 use Rattle.core_model.specs.declared.snapshot.Snapshot.{Snapshot}
@@ -18,7 +17,6 @@ use Rattle.core_model.specs.declared.targets.Why.TheVariants as why
 use Rattle.core_model.specs.ActorChanges.{captures_by}
 use Rattle.core_model.specs.Actors.{Counts, IsRegion}
 use Rattle.core_model.specs.Allows.{Allows}
-use Rattle.core_model.specs.Entries.{is_half, IsEntryIn}
 use Rattle.core_model.specs.FileChanges.{lists_by, snapshots_by}
 use Rattle.core_model.specs.Replay.{after}
 use Rattle.core_model.specs.SnapshotGuards.{copied}
@@ -31,9 +29,10 @@ use Rattle.core_sound.proofs.NeverAgain.{tables_after}
 use Rattle.core_sound.proofs.Tests.{cond_cases, both_right, same_key-true}
 use Rattle.core_contents.specs.Faithful.{IsFaithful}
 use Rattle.core_contents.proofs.Tools.{set_here}
-use Rattle.core_points.specs.Points.{half_key, AreEntries, HaveOneSide, HaveSides}
+use Rattle.core_points.specs.Points.{AreEntries, HaveOneSide, HaveSides}
 use Rattle.core_points.proofs.ListedPoints.{listed_was}
 use Rattle.core_points.proofs.PlannedSides.{planned_side}
+use Rattle.core_points.proofs.Pointers.{half_too}
 
 -- ---- lists
 
@@ -42,14 +41,6 @@ counted_side s h f k r (inl i) x y m n u v = (k.listed r i).side x y m n u v
 counted_side s h f k r (inr i) x y m n u v =
     let on : (e : Entry) → Member e (s.lists r).entries → Member ((key_of i.info).region, e) (s.plans i.actor).entries = λ e j. (h.built.at i.actor i.info e i.region (subst (λ (q : RegionKey). Member e (s.lists q).entries) (sym i.key) j)).1 in
     planned_side s h f k i.actor i.info i.region x y (on x m) (on y n) u v
-
--- what is of one base and parent with a half is a half
-half_too : (x y : Entry) → is_half x ≡ true → half_key x ≡ half_key y → is_half y ≡ true
-half_too (entries.Own b) y h k = absurd (cc)
-half_too (entries.Link b) y h k = absurd (cc)
-half_too (entries.Half b l p w t) (entries.Own c) h k = absurd (cc)
-half_too (entries.Half b l p w t) (entries.Link c) h k = absurd (cc)
-half_too (entries.Half b l p w t) (entries.Half c m q u v) h k = refl
 
 listed_sides : (p : Step) (s : Parts) → Allows p s → IsSound s → IsFaithful s → IsSound (after p s) → HaveSides s.plain.tables s.lists s.captures s.snapshots → (r : RegionKey) → IsRegion (tables_by p s.plain.snapshots s.plain.tables) r → AreEntries r (lists_by p s.lists r).entries
 listed_sides p s a h f g k r i = record {

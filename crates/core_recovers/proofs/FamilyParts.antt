@@ -1,10 +1,9 @@
 -- Entries whose families have the same entries have the same cells.
-use Rattle.std.proofs.Common.{◌≡◌, ℕ, ◌+◌, true, false, not, cond, List, [], ◌∷◌, ◌++◌, refl, sym, ap, ◌∙◌, subst, arith}
-use Rattle.std.specs.Prelude.{count_by}
+use Rattle.std.proofs.Common.{◌≡◌, ℕ, true, false, cond, List, [], ◌∷◌, ◌++◌, refl, sym, ap, ◌∙◌, subst, arith}
 use Rattle.std.proofs.lemmas.List.{append_assoc}
 use Rattle.std.proofs.lemmas.List.Elements.{filter-append}
 use Rattle.cell_sight.specs.Same.{Same}
-use Rattle.cell_sight.proofs.Counts.{count-append, same-refl, same-trans, same-append, same-equal, same-sym}
+use Rattle.cell_sight.proofs.Counts.{count-append, same-refl, same-trans, same-append, same-equal}
 use Rattle.hb_cell.specs.declared.cell.Cell.{Cell}
 use Rattle.hb_cell.specs.Order.{same_bytes}
 use Rattle.core_model.specs.declared.entry.Entry.{Entry}

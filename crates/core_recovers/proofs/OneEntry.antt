@@ -1,9 +1,7 @@
 -- An entry is told by its file's name and by what the file says of a half.
-use Rattle.std.proofs.Common.{◌≡◌, ℕ, Bool, true, false, List, Option, Some, None, refl, sym, ap, ◌∙◌}
+use Rattle.std.proofs.Common.{◌≡◌, ℕ, true, false, List, Some, refl, sym, ap, ◌∙◌}
 use Rattle.hb_layout.specs.declared.base.Base.{Base}
 use Rattle.plain_model.specs.declared.region_key.RegionKey.{RegionKey}
-use Rattle.snapshot_records.specs.declared.reference.Reference.{Reference}
-use Rattle.snapshot_records.specs.Reference.{IsReference}
 use Rattle.snapshot_records.proofs.Told.{OneValue-IsReference}
 use Rattle.core_model.specs.declared.entry.Entry.{Entry}
 use Rattle.core_model.specs.declared.entry.Entry.TheVariants.{Own, Link, Half}

@@ -13,7 +13,6 @@ use Rattle.hb_cell.specs.declared.cell.Cell.{Cell}
 use Rattle.hb_cell.specs.Order.{same_bytes}
 use Rattle.hb_layout.specs.declared.base.Base.{Base}
 use Rattle.hb_records.specs.declared.table_schema.TableSchema.{TableSchema}
-use Rattle.hfile_form.specs.File.{IsHFile}
 use Rattle.hfile_form.proofs.FileLaws.{one_list}
 use Rattle.ns_tree.specs.declared.file.FileState.{FileState}
 use Rattle.ns_tree.specs.Tree.{Tree}
@@ -25,19 +24,17 @@ use Rattle.plain_model.specs.Plain.{Plain}
 use Rattle.region_set.specs.declared.region_set.RegionSet.{RegionSet}
 use Rattle.snapshot_records.specs.declared.reference.Reference.{Reference}
 use Rattle.core_model.specs.declared.entry.Entry.{Entry}
-use Rattle.core_model.specs.declared.region_files.RegionFiles.{RegionFiles}
 use Rattle.core_model.specs.declared.snapshot.CopiedRegion.{CopiedRegion}
 use Rattle.core_model.specs.declared.snapshot.Snapshot.{Snapshot}
 use Rattle.core_model.specs.Actors.{InSet, IsRegion}
 use Rattle.core_model.specs.Disk.{Bases, Disk, disk_of, live_of, lists_of, sets_of, infos_of, manifests_of, is_live, is_archived}
-use Rattle.core_model.specs.Entries.{Made, base_of, cells_in, entry_name, file_of, kind_of, list_entry, region_list, IsEntryIn}
+use Rattle.core_model.specs.Entries.{Made, base_of, cells_in, entry_name, file_of, list_entry, IsEntryIn}
 use Rattle.core_model.specs.ListGuards.{in_family}
-use Rattle.core_model.specs.State.{Parts}
 use Rattle.core_sound.proofs.Lists.{member-front, member-behind}
 use Rattle.core_sound.proofs.NameFacts.{store_name}
 use Rattle.core_sound.proofs.Tests.{same_bytes-true}
 use Rattle.core_bytes.specs.FileOf.{IsPointer}
-use Rattle.core_bytes.specs.Recorded.{half_in, entries_in}
+use Rattle.core_bytes.specs.Recorded.{half_in}
 use Rattle.core_bytes.specs.Stored.{table_in_set}
 use Rattle.core_bytes.specs.Written.{IsMade}
 use Rattle.core_contents.specs.ContentFacts.{Copies, IsCopy}

@@ -1,5 +1,5 @@
 -- A tree that shows a state of which all is known gives back what a stop leaves of it.
-use Rattle.std.proofs.Common.{◌≡◌, ℕ, Bool, true, false, List, [], ◌∷◌, take, Some, None, refl, sym, ap, ◌∙◌, subst, inl, inr}
+use Rattle.std.proofs.Common.{◌≡◌, ℕ, Bool, true, false, List, take, Some, refl, sym, ◌∙◌, subst, inl, inr}
 use Rattle.std.specs.FinMap.{get}
 use Rattle.hb_layout.specs.declared.base.Base.{Base}
 use Rattle.ns_tree.specs.Tree.{Tree}
