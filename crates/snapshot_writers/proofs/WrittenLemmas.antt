@@ -10,11 +10,11 @@ use Rattle.hb_names.specs.TableName.{IsTableName}
 use Rattle.hb_records.specs.declared.region_info.RegionInfo.{RegionInfo}
 use Rattle.snapshot_records.specs.declared.reference.Reference.{Reference}
 use Rattle.snapshot_records.specs.declared.snapshot_info.SnapshotInfo.{SnapshotInfo}
-use Rattle.snapshot_records.specs.Reference.{half_code}
+use Rattle.snapshot_records.specs.Reference.{IsSplitRow, half_code, IsReferenceMessage}
 use Rattle.snapshot_records.specs.SnapshotInfo.{flush_code}
 use Rattle.snapshot_records.specs.TableMessage.{IsTableMessage}
 use Rattle.snapshot_records.specs.RegionInfo.{IsRegionInfo}
-use Rattle.snapshot_writers.specs.Written.{reference_parts, reference_bytes, ReferencesAreWritten, info_parts, info_bytes, InfosAreWritten, table_bytes, region_parts, region_bytes, IsRegionRow, RegionsAreWritten}
+use Rattle.snapshot_writers.specs.Written.{reference_parts, reference_message, reference_bytes, ReferencesAreWritten, info_parts, info_bytes, InfosAreWritten, table_bytes, region_parts, region_bytes, IsRegionRow, RegionsAreWritten}
 
 half_small : (b : Bool) → half_code b < 2 ^ 64
 half_small true = omega arith
@@ -24,21 +24,20 @@ flush_small : (b : Bool) → flush_code b < 2 ^ 64
 flush_small true = omega arith
 flush_small false = omega arith
 
-pub reference_written : ReferencesAreWritten
-reference_written reference row =
+pub reference_message_written : (reference : Reference) → IsSplitRow reference.row → IsReferenceMessage (reference_message reference) reference
+reference_message_written reference row =
     let small = half_small reference.top in
     let most : length reference.row < 2 ^ 64 = omega arith in
     record {
-      rest = _;
-      prefix = refl;
-      message = record {
-        parts = reference_parts reference;
-        values = (Some reference.row, Some reference.top);
-        message = ((((omega arith, omega arith), most), (((omega arith, omega arith), small), tt)), refl);
-        spelled = (record { all = reference.row ∷ []; each = ((row, refl), tt); counts = refl }, record { all = reference.top ∷ []; each = (refl, tt); counts = refl });
-        whole = refl;
-      };
+      parts = reference_parts reference;
+      values = (Some reference.row, Some reference.top);
+      message = ((((omega arith, omega arith), most), (((omega arith, omega arith), small), tt)), refl);
+      spelled = (record { all = reference.row ∷ []; each = ((row, refl), tt); counts = refl }, record { all = reference.top ∷ []; each = (refl, tt); counts = refl });
+      whole = refl;
     }
+
+pub reference_written : ReferencesAreWritten
+reference_written reference row = record { rest = reference_message reference; prefix = refl; message = reference_message_written reference row }
 
 qualifier_short : (bytes : List ℕ) → IsQualifier bytes → length bytes ≤ 100
 qualifier_short bytes is =
@@ -104,7 +103,7 @@ table_short table short =
     let inner = length-append (field_bytes 2 (text table)) [] in
     omega arith
 
-table_written : (table : List ℕ) → IsTableName table → IsTableMessage (table_bytes table) table
+pub table_written : (table : List ℕ) → IsTableName table → IsTableMessage (table_bytes table) table
 table_written table is =
     let short = qualifier_short table is in
     let small : length table < 2 ^ 64 = omega arith in
@@ -124,10 +123,10 @@ module _ (id : ℕ) (table : List ℕ) (small : id < 2 ^ 64) (is : IsTableName t
   table_fits : length (table_bytes table) < 2 ^ 64
   table_fits = let short = qualifier_short table is in let whole = table_short table short in omega arith
 
-  region_case : (start : List ℕ) (end : Option (List ℕ)) → IsRegionRow start → IfSome end IsRegionRow → IfSome end (λ row. 1 ≤ length row)
+  region_case : (start : List ℕ) (end : Option (List ℕ)) → IsRegionRow start → IfSome end IsSplitRow
       → IsRegionInfo (region_bytes (region_of id table start end)) (region_of id table start end)
   unfolding region_of
-  region_case [] None below above some = record {
+  region_case [] None below above = record {
     parts = region_parts (region_of id table [] None);
     values = (Some id, (Some table, (None, None)));
     message = ((((omega arith, omega arith), small), (((omega arith, omega arith), table_fits), tt)), refl);
@@ -140,8 +139,8 @@ module _ (id : ℕ) (table : List ℕ) (small : id < 2 ^ 64) (is : IsTableName t
     );
     whole = refl;
   }
-  region_case [] (Some []) below above some = absurd (omega arith)
-  region_case [] (Some (c ∷ end)) below above some = record {
+  region_case [] (Some []) below above = absurd (omega arith)
+  region_case [] (Some (c ∷ end)) below above = record {
     parts = region_parts (region_of id table [] (Some (c ∷ end)));
     values = (Some id, (Some table, (None, Some (c ∷ end))));
     message = ((((omega arith, omega arith), small), (((omega arith, omega arith), table_fits), (((omega arith, omega arith), omega arith), tt))), refl);
@@ -149,12 +148,12 @@ module _ (id : ℕ) (table : List ℕ) (small : id < 2 ^ 64) (is : IsTableName t
       record { all = id ∷ []; each = ((tt, refl), tt); counts = refl },
       (
         record { all = table ∷ []; each = (table_written table is, tt); counts = refl },
-        (record { all = []; each = tt; counts = refl }, record { all = (c ∷ end) ∷ []; each = ((above, refl), tt); counts = refl }),
+        (record { all = []; each = tt; counts = refl }, record { all = (c ∷ end) ∷ []; each = ((above.most, refl), tt); counts = refl }),
       ),
     );
     whole = refl;
   }
-  region_case (b ∷ start) None below above some = record {
+  region_case (b ∷ start) None below above = record {
     parts = region_parts (region_of id table (b ∷ start) None);
     values = (Some id, (Some table, (Some (b ∷ start), None)));
     message = ((((omega arith, omega arith), small), (((omega arith, omega arith), table_fits), (((omega arith, omega arith), omega arith), tt))), refl);
@@ -167,8 +166,8 @@ module _ (id : ℕ) (table : List ℕ) (small : id < 2 ^ 64) (is : IsTableName t
     );
     whole = refl;
   }
-  region_case (b ∷ start) (Some []) below above some = absurd (omega arith)
-  region_case (b ∷ start) (Some (c ∷ end)) below above some = record {
+  region_case (b ∷ start) (Some []) below above = absurd (omega arith)
+  region_case (b ∷ start) (Some (c ∷ end)) below above = record {
     parts = region_parts (region_of id table (b ∷ start) (Some (c ∷ end)));
     values = (Some id, (Some table, (Some (b ∷ start), Some (c ∷ end))));
     message = ((((omega arith, omega arith), small), (((omega arith, omega arith), table_fits), (((omega arith, omega arith), omega arith), (((omega arith, omega arith), omega arith), tt)))), refl);
@@ -176,7 +175,7 @@ module _ (id : ℕ) (table : List ℕ) (small : id < 2 ^ 64) (is : IsTableName t
       record { all = id ∷ []; each = ((tt, refl), tt); counts = refl },
       (
         record { all = table ∷ []; each = (table_written table is, tt); counts = refl },
-        (record { all = (b ∷ start) ∷ []; each = ((below, refl), tt); counts = refl }, record { all = (c ∷ end) ∷ []; each = ((above, refl), tt); counts = refl }),
+        (record { all = (b ∷ start) ∷ []; each = ((below, refl), tt); counts = refl }, record { all = (c ∷ end) ∷ []; each = ((above.most, refl), tt); counts = refl }),
       ),
     );
     whole = refl;
@@ -184,4 +183,4 @@ module _ (id : ℕ) (table : List ℕ) (small : id < 2 ^ 64) (is : IsTableName t
 
 pub region_written : RegionsAreWritten
 unfolding region_of
-region_written info small is below above some = region_case info.id info.table small is info.start info.end below above some
+region_written info is = region_case info.id info.table is.id is.table info.start info.end is.start is.end

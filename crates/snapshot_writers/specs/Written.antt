@@ -14,8 +14,12 @@ use Rattle.snapshot_records.specs.RegionInfo.{IsRegionInfo}
 abbrev pub reference_parts : Reference → List (ℕ × Part)
 reference_parts reference = (1, text reference.row) ∷ (2, number (half_code reference.top)) ∷ []
 
+-- without its prefix, as it stands in a manifest
+abbrev pub reference_message : Reference → List ℕ
+reference_message reference = message_bytes (reference_parts reference)
+
 abbrev pub reference_bytes : Reference → List ℕ
-reference_bytes reference = codes "PBUF" ++ message_bytes (reference_parts reference)
+reference_bytes reference = codes "PBUF" ++ reference_message reference
 
 -- the version of the form is 2
 abbrev pub info_parts : SnapshotInfo → List (ℕ × Part)
@@ -46,6 +50,13 @@ region_bytes info = message_bytes (region_parts info)
 abbrev pub IsRegionRow : List ℕ → Type 0
 IsRegionRow row = length row ≤ 32767
 
+-- a region that has a record: its bounds are rows, and its end, where it has one, is of at least a byte
+pub record IsWritableRegion (info : RegionInfo) : Type 0 where
+  pub id : info.id < 2 ^ 64
+  pub table : IsTableName info.table
+  pub start : IsRegionRow info.start
+  pub end : IfSome info.end IsSplitRow
+
 -- what is written is the record of its value
 abbrev pub ReferencesAreWritten : Type 0
 ReferencesAreWritten = (reference : Reference) → IsSplitRow reference.row → IsReference (reference_bytes reference) reference
@@ -53,7 +64,5 @@ ReferencesAreWritten = (reference : Reference) → IsSplitRow reference.row → 
 abbrev pub InfosAreWritten : Type 0
 InfosAreWritten = (info : SnapshotInfo) → IsSnapName info.name → IsTableName info.table → info.created < 2 ^ 64 → IsSnapshotInfo (info_bytes info) info
 
--- a region has a record where its end, if it has one, is a row of at least a byte
 abbrev pub RegionsAreWritten : Type 0
-RegionsAreWritten = (info : RegionInfo) → info.id < 2 ^ 64 → IsTableName info.table → IsRegionRow info.start
-    → IfSome info.end IsRegionRow → IfSome info.end (λ row. 1 ≤ length row) → IsRegionInfo (region_bytes info) info
+RegionsAreWritten = (info : RegionInfo) → IsWritableRegion info → IsRegionInfo (region_bytes info) info

@@ -1,6 +1,6 @@
 //! Descriptions of snapshots.
 ghost use Rattle.std.specs.Prelude.{◌≡◌, ◌++◌, IfOk, OnOk, OnErr};
-ghost use Rattle.snapshot_records.specs.SnapshotInfo.{flush_code};
+ghost use Rattle.snapshot_records.specs.SnapshotInfo.{flush_code, IsSnapshotInfo};
 ghost use Rattle.snapshot_writers.specs.Written.{info_bytes};
 
 use hb_wire::{Blob, NoMemory};
@@ -17,7 +17,8 @@ fn flush_code(flush: bool) -> u64
 
 /// The record of a description.
 fn info_bytes(alloc: Global, info: &SnapshotInfo) -> Result<Blob, NoMemory>
-    ensures { IfOk result (λ written. written ≡ info_bytes info.now) }
+    ensures bytes { IfOk result (λ written. written ≡ info_bytes info.now) }
+    ensures record { IfOk result (λ _. IsSnapshotInfo (info_bytes info.now) info.now) }
 {
     let mut record = Blob::from_vec(Vec::new(alloc));
     put_bytes_field(&mut record, 1, info.name.as_slice())?;
@@ -33,6 +34,7 @@ fn info_bytes(alloc: Global, info: &SnapshotInfo) -> Result<Blob, NoMemory>
 /// Source: HBase `SnapshotDescription`.
 pub fn write_snapshot_info(info: &SnapshotInfo, out: &mut Blob) -> Result<(), NoMemory>
     ensures ok { OnOk result (out.new ≡ out.old ++ info_bytes info.now) }
+    ensures record { OnOk result (IsSnapshotInfo (info_bytes info.now) info.now) }
     ensures err { OnErr result (out.new ≡ out.old) }
 {
     let record = info_bytes(out.allocator(), info)?;

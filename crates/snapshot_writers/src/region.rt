@@ -1,8 +1,10 @@
 //! Regions.
 ghost use Rattle.std.specs.Prelude.{◌≡◌, ◌++◌, ◌↔◌, List, length, IsTrue, IfOk, OnOk, OnErr};
 ghost use Rattle.wire_fields.specs.Message.{message_bytes};
-ghost use Rattle.snapshot_writers.specs.Written.{table_bytes, start_part, end_part, region_bytes, IsRegionRow};
+ghost use Rattle.snapshot_records.specs.RegionInfo.{IsRegionInfo};
+ghost use Rattle.snapshot_writers.specs.Written.{table_bytes, start_part, end_part, region_bytes, IsRegionRow, IsWritableRegion};
 
+use crate::is_split_row;
 use hb_names::TableName;
 use hb_records::RegionInfo;
 use hb_wire::{Blob, NoMemory};
@@ -16,8 +18,22 @@ pub fn is_region_row(row: &[u8]) -> bool
     row.len() <= 32767
 }
 
+/// Whether a region has a record: whether its bounds are rows, and its end, where it has one, is of at least a byte.
+pub fn is_writable_region(info: &RegionInfo) -> bool
+    ensures { IsTrue result ↔ IsWritableRegion info.now }
+{
+    // The id and the table's name are right by their types.
+    let _id = info.id;
+    let _table = info.table.as_slice();
+    let ends = match &info.end {
+        Some(row) => is_split_row(row.as_slice()),
+        None => true,
+    };
+    ends && is_region_row(info.start.as_slice())
+}
+
 /// The message of a table's name.
-fn table_bytes(alloc: Global, table: &TableName) -> Result<Blob, NoMemory>
+pub fn table_message(alloc: Global, table: &TableName) -> Result<Blob, NoMemory>
     ensures { IfOk result (λ message. message ≡ table_bytes table.now) }
 {
     let mut message = Blob::from_vec(Vec::new(alloc));
@@ -46,26 +62,28 @@ fn put_end(out: &mut Blob, row: &Option<Blob>) -> Result<(), NoMemory>
     }
 }
 
-/// The record of a region.
-fn region_bytes(alloc: Global, info: &RegionInfo) -> Result<Blob, NoMemory>
+/// The message of a region.
+pub fn region_message(alloc: Global, info: &RegionInfo) -> Result<Blob, NoMemory>
     ensures { IfOk result (λ written. written ≡ region_bytes info.now) }
 {
-    let table = table_bytes(alloc, &info.table)?;
-    let mut record = Blob::from_vec(Vec::new(alloc));
-    put_varint_field(&mut record, 1, info.id)?;
-    put_bytes_field(&mut record, 2, table.as_slice())?;
-    put_start(&mut record, info.start.as_slice())?;
-    put_end(&mut record, &info.end)?;
-    Ok(record)
+    let table = table_message(alloc, &info.table)?;
+    let mut message = Blob::from_vec(Vec::new(alloc));
+    put_varint_field(&mut message, 1, info.id)?;
+    put_bytes_field(&mut message, 2, table.as_slice())?;
+    put_start(&mut message, info.start.as_slice())?;
+    put_end(&mut message, &info.end)?;
+    Ok(message)
 }
 
 /// Adds the record of a region at the end. Without memory for it nothing changes.
 ///
 /// Source: HBase `RegionInfo`.
 pub fn write_region_info(info: &RegionInfo, out: &mut Blob) -> Result<(), NoMemory>
+    requires { IsWritableRegion info.now }
     ensures ok { OnOk result (out.new ≡ out.old ++ region_bytes info.now) }
+    ensures record { IsRegionInfo (region_bytes info.now) info.now }
     ensures err { OnErr result (out.new ≡ out.old) }
 {
-    let record = region_bytes(out.allocator(), info)?;
+    let record = region_message(out.allocator(), info)?;
     out.add(record.as_slice())
 }

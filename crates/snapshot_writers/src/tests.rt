@@ -1,6 +1,8 @@
 //! Records written, and read again.
 
-use crate::{is_split_row, write_reference, write_region_info, write_snapshot_info};
+use crate::{
+    is_split_row, is_writable_region, write_reference, write_region_info, write_snapshot_info,
+};
 use hb_names::{SnapName, TableName};
 use hb_records::RegionInfo;
 use hb_wire::Blob;
@@ -73,7 +75,9 @@ fn region_record(alloc: Global, start: &[u8], end: Option<&[u8]>) -> Result<Blob
         start,
         end,
     };
-    write_region_info(&info, &mut out)?;
+    if is_writable_region(&info) {
+        write_region_info(&info, &mut out)?;
+    }
     Ok(out)
 }
 

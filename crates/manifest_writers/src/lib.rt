@@ -1,0 +1,17 @@
+//! The messages of manifests, written.
+#![tactic(auto)]
+
+pub mod file;
+pub mod laws;
+pub mod manifest;
+pub mod region;
+pub mod schema;
+
+pub use file::is_writable_file;
+pub use laws::manifests_written;
+pub use manifest::{is_writable_manifest, write_manifest};
+pub use region::{is_writable_region_manifest, write_region_manifest};
+pub use schema::is_writable_schema;
+
+#[cfg(test)]
+mod tests;

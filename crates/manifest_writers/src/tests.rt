@@ -1,0 +1,1 @@
+//! Manifests written, and read again.
