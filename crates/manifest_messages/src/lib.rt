@@ -15,3 +15,5 @@ pub use region::{RegionManifestRule, read_region_manifest};
 
 #[cfg(test)]
 mod tests;
+#[cfg(test)]
+mod turn_tests;

@@ -7,15 +7,15 @@ use std::alloc::Global;
 use std::process::Abort;
 
 /// The file of a region's own, as its manifest names it.
-const REGION: &[u8; 57] =
+pub(crate) const REGION: &[u8; 57] =
     b"\x08\x01\x12\x07\x08\x07\x12\x03\x12\x01t\x1a\x29\x0a\x01f\x12\x24\x0a\x200000000000000001000000000000000a\x18\x05\xa0\x06\x09";
 
 /// A table `t` whose family `f` shows three versions, and one region of one file.
-const MANIFEST: &[u8; 86] =
+pub(crate) const MANIFEST: &[u8; 86] =
     b"\x0a\x19\x0a\x03\x12\x01t\x1a\x12\x0a\x01f\x12\x0d\x0a\x08VERSIONS\x12\x013\x12\x39\x08\x01\x12\x07\x08\x07\x12\x03\x12\x01t\x1a\x29\x0a\x01f\x12\x24\x0a\x200000000000000001000000000000000a\x18\x05\xa0\x06\x09";
 
 /// A region's id and number, how many files it has, and the size and the half of the last.
-type Region = (u64, u64, usize, u64, Option<bool>);
+pub(crate) type Region = (u64, u64, usize, u64, Option<bool>);
 
 fn region_parts(region: &RegionManifest) -> Region {
     let files = region.files.as_slice();
@@ -31,7 +31,7 @@ fn region_parts(region: &RegionManifest) -> Region {
     }
 }
 
-fn region(alloc: Global, bytes: &[u8]) -> Result<Region, RecordError> {
+pub(crate) fn region(alloc: Global, bytes: &[u8]) -> Result<Region, RecordError> {
     let region = read_region_manifest(alloc, bytes)?;
     Ok(region_parts(&region))
 }
@@ -46,13 +46,13 @@ fn manifest_parts(manifest: &Manifest) -> (usize, u32, usize) {
     (families.len(), versions, manifest.regions.len())
 }
 
-fn manifest(alloc: Global, bytes: &[u8]) -> Result<(usize, u32, usize), RecordError> {
+pub(crate) fn manifest(alloc: Global, bytes: &[u8]) -> Result<(usize, u32, usize), RecordError> {
     let manifest = read_manifest(alloc, bytes)?;
     Ok(manifest_parts(&manifest))
 }
 
 /// Regions, and bytes that are none. A half's name is its file's, a dot and its parent's.
-const REGIONS: [(&[u8], Result<Region, RecordError>); 14] = [
+const REGIONS: [(&[u8], Result<Region, RecordError>); 18] = [
     (REGION, Ok((7, 9, 1, 5, None))),
     (
         b"\x12\x07\x08\x07\x12\x03\x12\x01t\xa0\x06\x00",
@@ -104,6 +104,25 @@ const REGIONS: [(&[u8], Result<Region, RecordError>); 14] = [
         b"\x1a\x2e\x0a\x01f\x12\x29\x0a\x200000000000000001000000000000000a\x12\x05\x0a\x01m\x10\x00",
         Err(RecordError::BadRecord(41)),
     ),
+    // Unknown fields, of a family and of a file too; of a size and of a number the last counts.
+    (
+        b"\x1a\x2f\x0a\x01f\x18\x01\x12\x28\x20\x01\x0a\x200000000000000001000000000000000a\x18\x04\x18\x05\x28\x01\x12\x07\x08\x07\x12\x03\x12\x01t\xa0\x06\x01\xa0\x06\x02",
+        Ok((7, 2, 1, 5, None)),
+    ),
+    // The greatest number, and the one above it.
+    (
+        b"\x12\x07\x08\x07\x12\x03\x12\x01t\xa0\x06\xff\xff\xff\xff\xff\xff\xff\xff\x7f",
+        Ok((7, 9_223_372_036_854_775_807, 0, 0, None)),
+    ),
+    (
+        b"\x12\x07\x08\x07\x12\x03\x12\x01t\xa0\x06\x80\x80\x80\x80\x80\x80\x80\x80\x80\x01",
+        Err(RecordError::BadRecord(9)),
+    ),
+    // A fault of a file's reference is told within it.
+    (
+        b"\x1a\x51\x0a\x01f\x12\x4c\x0a\x410000000000000001000000000000000a.0123456789abcdef0123456789abcdef\x12\x05\x0a\x01m\x10\x02\x18\x04",
+        Err(RecordError::BadRecord(79)),
+    ),
     // A name that is none of the three.
     (
         b"\x1a\x08\x0a\x01f\x12\x03\x0a\x01x",
@@ -112,7 +131,7 @@ const REGIONS: [(&[u8], Result<Region, RecordError>); 14] = [
 ];
 
 /// Manifests, and bytes that are none.
-const MANIFESTS: [(&[u8], Result<(usize, u32, usize), RecordError>); 11] = [
+const MANIFESTS: [(&[u8], Result<(usize, u32, usize), RecordError>); 14] = [
     (MANIFEST, Ok((1, 3, 1))),
     (b"\x0a\x05\x0a\x03\x12\x01t", Ok((0, 0, 0))),
     // No attribute, two of them, and one that nobody knows.
@@ -124,6 +143,20 @@ const MANIFESTS: [(&[u8], Result<(usize, u32, usize), RecordError>); 11] = [
     (
         b"\x0a\x11\x0a\x03\x12\x01t\x1a\x0a\x0a\x01f\x12\x05\x0a\x03TTL",
         Ok((1, 1, 0)),
+    ),
+    // Unknown fields of the schema, a family, an attribute and the manifest.
+    (
+        b"\x0a\x1f\x10\x01\x0a\x03\x12\x01t\x1a\x16\x0a\x01f\x18\x01\x12\x0f\x0a\x08VERSIONS\x18\x01\x12\x015\x18\x01",
+        Ok((1, 5, 0)),
+    ),
+    // Of two schemas the last counts, and the first has to be one.
+    (
+        b"\x0a\x05\x0a\x03\x12\x01t\x0a\x0a\x0a\x03\x12\x01t\x1a\x03\x0a\x01f",
+        Ok((1, 1, 0)),
+    ),
+    (
+        b"\x0a\x05\x0a\x03\x12\x01-\x0a\x05\x0a\x03\x12\x01t",
+        Err(RecordError::BadRecord(4)),
     ),
     // No version, a leading zero, no value at all.
     (

@@ -1,6 +1,6 @@
 -- Files by their families.
-use Rattle.std.proofs.Common.{◌≡◌, ℕ, zero, suc, ◌^◌, ◌<◌, Bool, true, false, cond, List, [], ◌∷◌, ◌++◌, map, take, drop, Option, Some, None, refl, sym, ap, subst, ◌∙◌}
-use Rattle.std.specs.Prelude.{is_some}
+use Rattle.std.proofs.Common.{◌≡◌, ℕ, zero, suc, ◌^◌, ◌<◌, ◌≤◌, length, length-drop, arith, Bool, true, false, cond, List, [], ◌∷◌, ◌++◌, map, take, drop, Option, Some, None, refl, sym, ap, subst, ◌∙◌}
+use Rattle.std.specs.Prelude.{is_some, slice_get}
 use Rattle.std.specs.Str.{bytes_eq}
 use Rattle.std.specs.Ordering.{nat_cmp, on, is_eq}
 use Rattle.std.specs.declared.cmp.Ordering.{Ordering}
@@ -8,6 +8,7 @@ use Rattle.std.specs.declared.cmp.Ordering.TheVariants.{Less, Equal, Greater}
 use Rattle.std.specs.Cmp.Lexicographic.{slice_cmp, nat_list_cmp_total, texts_ties}
 use Rattle.std.specs.List.{AllByRecursion, flat_map}
 use Rattle.std.specs.List.Sorted.{IsStrictlySortedBy}
+use Rattle.std.proofs.lemmas.List.{append_assoc, append-nil}
 use Rattle.std.proofs.lemmas.Cmp.{tied_back}
 use Rattle.std.proofs.lemmas.Slice.Eq.{bytes_eq-Decides}
 use Rattle.hb_grammar.specs.AtLeast.{IsAtLeast}
@@ -56,6 +57,53 @@ by_family-run e [] = refl
 by_family-run e (x ∷ xs) =
     let rest = by_family-run x xs in
     ap (in_front e) rest ∙ run_in_front e x xs (bytes_eq x.0 e.0) (same_names x.0 e.0) rest
+
+same_itself : (name : List ℕ) → bytes_eq name name ≡ true
+same_itself name = (bytes_eq-Decides name name).1 refl
+
+pub run_first : (e : Entry) (es : List Entry) → run_length e.0 (e ∷ es) ≡ suc (run_length e.0 es)
+run_first e es = ap (λ (b : Bool). cond b (suc (run_length e.0 es)) 0) (same_itself e.0)
+
+-- a file is of its own family
+pub run_some : (files : List Entry) (e : Entry) (es : List Entry) → files ≡ e ∷ es → 1 ≤ run_length e.0 files
+run_some files e es whole =
+    subst (λ (fs : List Entry). 1 ≤ run_length e.0 fs) (sym whole) (let first = run_first e es in omega (arith, first))
+
+pub by_family-first : (files : List Entry) (e : Entry) (es : List Entry) → files ≡ e ∷ es
+    → by_family files ≡ (e.0, map file_of (take (run_length e.0 files) files)) ∷ by_family (drop (run_length e.0 files) files)
+by_family-first files e es whole =
+    let split : ℕ → List FamilyFiles = λ n. (e.0, map file_of (take n (e ∷ es))) ∷ by_family (drop n (e ∷ es)) in
+    subst (λ (fs : List Entry). by_family fs ≡ (e.0, map file_of (take (run_length e.0 fs) fs)) ∷ by_family (drop (run_length e.0 fs) fs)) (sym whole)
+    (by_family-run e es ∙ sym (ap split (run_first e es)))
+
+-- the first of some files, and the others
+first_of_files : (files : List Entry) (e : Entry) → Some e ≡ slice_get files 0 → files ≡ e ∷ drop 1 files
+first_of_files [] e is = cc
+first_of_files (f ∷ files) e is = let same : e ≡ f = cc in ap (λ (x : Entry). x ∷ files) (sym same)
+
+-- what is written of the families from a file on, with the first of them written
+pub one_family_more : (bytes : FamilyFiles → List ℕ) (out new whole : List ℕ) (rest run behind : List Entry) (e : Entry) → Some e ≡ slice_get rest 0
+    → run ≡ take (run_length e.0 rest) rest → behind ≡ drop (run_length e.0 rest) rest → new ≡ out ++ bytes (e.0, map file_of run)
+    → out ++ flat_map bytes (by_family rest) ≡ whole → new ++ flat_map bytes (by_family behind) ≡ whole
+one_family_more bytes out new whole rest run behind e first run_is behind_is new_is so_far =
+    let split : List Entry → List Entry → List FamilyFiles = λ run behind. (e.0, map file_of run) ∷ by_family behind in
+    let families : split run behind ≡ by_family rest = (λ i. split (run_is i) (behind_is i)) ∙ sym (by_family-first rest e (drop 1 rest) (first_of_files rest e first)) in
+    ap (λ (x : List ℕ). x ++ flat_map bytes (by_family behind)) new_is
+    ∙ append_assoc out (bytes (e.0, map file_of run)) (flat_map bytes (by_family behind))
+    ∙ ap (λ (fs : List FamilyFiles). out ++ flat_map bytes fs) families
+    ∙ so_far
+
+-- fewer files are left
+pub fewer_left : (rest behind : List Entry) (e : Entry) → Some e ≡ slice_get rest 0 → behind ≡ drop (run_length e.0 rest) rest → run_length e.0 rest ≤ length rest → length behind < length rest
+fewer_left rest behind e first behind_is within =
+    let some = run_some rest e (drop 1 rest) (first_of_files rest e first) in
+    let left = ap length behind_is ∙ length-drop (run_length e.0 rest) rest in
+    omega arith
+
+-- no file is left
+pub no_family_more : (bytes : FamilyFiles → List ℕ) (out whole : List ℕ) (rest : List Entry) → None ≡ slice_get rest 0 → out ++ flat_map bytes (by_family rest) ≡ whole → out ≡ whole
+no_family_more bytes out whole [] none so_far = sym (append-nil out) ∙ so_far
+no_family_more bytes out whole (e ∷ es) none so_far = cc
 
 -- ---- their names ascend
 

@@ -1,3 +1,4 @@
 pub mod Repeats
 pub mod Families
 pub mod Records
+pub mod ReadBacks

@@ -1,8 +1,8 @@
 -- Repeated fields, and messages that are short enough.
-use Rattle.std.proofs.Common.{◌≡◌, ℕ, ◌+◌, ◌*◌, ◌/◌, ◌%◌, ◌^◌, ◌<◌, ◌≤◌, Bool, true, false, cond, List, [], ◌∷◌, ◌++◌, length, map, Option, Some, None, refl, sym, ap, subst, ◌∙◌, arith}
+use Rattle.std.proofs.Common.{◌≡◌, ℕ, ◌+◌, ◌*◌, ◌/◌, ◌%◌, ◌^◌, ◌<◌, ◌≤◌, Bool, true, false, cond, List, [], ◌∷◌, ◌++◌, length, map, take, get_or, Option, Some, None, refl, sym, ap, subst, ◌∙◌, arith}
 use Rattle.std.specs.Prelude.{◌==◌}
 use Rattle.std.specs.List.{AllByRecursion, flat_map}
-use Rattle.std.proofs.lemmas.List.{length-append}
+use Rattle.std.proofs.lemmas.List.{length-append, append_assoc, take_more}
 use Rattle.wire_fields.specs.Varint.{varint}
 use Rattle.wire_fields.specs.Fields.{Part, number, eight, four, text, field_bytes, value_bytes, kind, Fits, IsId}
 use Rattle.wire_fields.specs.Message.{message_bytes, AreParts, IsPart}
@@ -50,6 +50,12 @@ pub All-first : {A : Type 0} (P : A → Type 0) (xs ys : List A) → AllByRecurs
 All-first P [] ys all = tt
 All-first P (x ∷ xs) ys all = (all.0, All-first P xs ys all.1)
 
+pub All-take_more : {A : Type 0} (P : A → Type 0) (xs : List A) (i : ℕ) (x : A) → i < length xs → x ≡ get_or xs i x → AllByRecursion P (take i xs) → P x
+    → AllByRecursion P (take (i + 1) xs)
+All-take_more {A} P xs i x below here all is =
+    let more = take_more xs i x below ∙ ap (λ (y : A). take i xs ++ y ∷ []) (sym here) in
+    subst (AllByRecursion P) (sym more) (All-append P (take i xs) (x ∷ []) all (is, tt))
+
 -- ---- repeated fields
 
 module _ {V : Type 0} (bytes : V → List ℕ) where
@@ -60,6 +66,19 @@ module _ {V : Type 0} (bytes : V → List ℕ) where
   pub bytes_repeated : (id : ℕ) (vs : List V) → message_bytes (repeated id bytes vs) ≡ flat_map (λ v. field_bytes id (text (bytes v))) vs
   bytes_repeated id [] = refl
   bytes_repeated id (v ∷ vs) = ap (λ (rest : List ℕ). field_bytes id (text (bytes v)) ++ rest) (bytes_repeated id vs)
+
+  pub bytes_repeated_then : (id : ℕ) (vs : List V) (rest : List (ℕ × Part))
+      → message_bytes (repeated id bytes vs ++ rest) ≡ flat_map (λ v. field_bytes id (text (bytes v))) vs ++ message_bytes rest
+  bytes_repeated_then id [] rest = refl
+  bytes_repeated_then id (v ∷ vs) rest =
+      ap (λ (behind : List ℕ). field_bytes id (text (bytes v)) ++ behind) (bytes_repeated_then id vs rest)
+      ∙ sym (append_assoc (field_bytes id (text (bytes v))) (flat_map (λ v. field_bytes id (text (bytes v))) vs) (message_bytes rest))
+
+  -- of values that are parts of others
+  pub bytes_repeated_of : {W : Type 0} (part : W → V) (id : ℕ) (ws : List W)
+      → message_bytes (repeated id bytes (map part ws)) ≡ flat_map (λ w. field_bytes id (text (bytes (part w)))) ws
+  bytes_repeated_of part id [] = refl
+  bytes_repeated_of part id (w ∷ ws) = ap (λ (behind : List ℕ). field_bytes id (text (bytes (part w))) ++ behind) (bytes_repeated_of part id ws)
 
   pub values_repeated : (id : ℕ) (vs : List V) → (id == id) ≡ true → values_of id (repeated id bytes vs) ≡ map (λ v. text (bytes v)) vs
   values_repeated id [] same = refl

@@ -1,5 +1,5 @@
 //! Files of regions, each with its family.
-ghost use Rattle.std.specs.Prelude.{◌≡◌, ◌≤◌, ◌++◌, ◌↔◌, length, map, None, IsTrue, IfOk, OnOk, option_copied};
+ghost use Rattle.std.specs.Prelude.{◌≡◌, ◌≤◌, ◌++◌, ◌↔◌, length, map, None, IsTrue, IfOk, OnOk, option_copied, is_some};
 ghost use Rattle.std.specs.List.{flat_map};
 ghost use Rattle.wire_fields.specs.Fields.{text, field_bytes};
 ghost use Rattle.wire_fields.specs.Message.{message_bytes};
@@ -31,6 +31,13 @@ fn is_entry_name(name: &[u8], is_half: bool) -> bool
     !names_half && (FileName::parse(name).is_ok() || LinkName::parse(name).is_ok())
 }
 
+/// Whether a file's name is that of a half where it is one, and else of a file or a link.
+fn has_entry_name(entry: &Entry) -> bool
+    ensures { IsTrue result ↔ IsEntryName entry.now.1 (entry.now.1, is_some entry.now.2) }
+{
+    is_entry_name(entry.1.as_slice(), entry.2.is_some())
+}
+
 /// Whether a half's file can have been split at its row.
 fn has_split_row(half: &Option<Reference>) -> bool
     ensures { IsTrue result ↔ HasSplitRow half.now }
@@ -48,7 +55,7 @@ pub fn is_writable_file(entry: &Entry) -> bool
     // The family's name and the size are right by their types.
     let _family = entry.0.as_slice();
     let _size = entry.3;
-    has_split_row(&entry.2) && is_entry_name(entry.1.as_slice(), entry.2.is_some())
+    has_split_row(&entry.2) && has_entry_name(entry)
 }
 
 /// Whether a name is not below another.

@@ -17,3 +17,5 @@ pub use table::{TableRule, read_table};
 
 #[cfg(test)]
 mod tests;
+#[cfg(test)]
+mod turn_tests;

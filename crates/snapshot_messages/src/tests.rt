@@ -69,7 +69,7 @@ fn info_parts(alloc: Global, bytes: &[u8]) -> Result<(usize, usize, u64, bool), 
 }
 
 /// Descriptions of snapshots, and bytes that are none.
-const INFOS: [(&[u8], Result<(usize, usize, u64, bool), RecordError>); 10] = [
+const INFOS: [(&[u8], Result<(usize, usize, u64, bool), RecordError>); 12] = [
     (
         b"\x0a\x02s1\x12\x01t\x18\xac\x02\x20\x00\x28\x02",
         Ok((2, 1, 300, false)),
@@ -78,6 +78,15 @@ const INFOS: [(&[u8], Result<(usize, usize, u64, bool), RecordError>); 10] = [
     (
         b"\x0a\x01a\x0a\x02s1\x12\x01t\x20\x00\x20\x01",
         Ok((2, 1, 0, true)),
+    ),
+    // Unknown fields of each kind are passed over, and of a number the last value counts.
+    (
+        b"\x30\x05\x0a\x02s1\x3a\x01x\x12\x01t\x45\x01\x02\x03\x04\x49\x01\x02\x03\x04\x05\x06\x07\x08",
+        Ok((2, 1, 0, true)),
+    ),
+    (
+        b"\x0a\x02s1\x12\x01t\x18\x05\x18\xff\xff\xff\xff\xff\xff\xff\xff\xff\x01",
+        Ok((2, 1, 18_446_744_073_709_551_615, true)),
     ),
     (b"", Err(RecordError::MissingField(1))),
     (b"\x0a\x02s1", Err(RecordError::MissingField(2))),
@@ -136,7 +145,7 @@ fn region_parts(
 const REGIONS: [(
     &[u8],
     Result<(u64, usize, usize, Option<usize>), RecordError>,
-); 9] = [
+); 12] = [
     (
         b"\x08\x07\x12\x0b\x0a\x07default\x12\x00",
         Err(RecordError::BadRecord(13)),
@@ -145,6 +154,20 @@ const REGIONS: [(
     (
         b"\x08\x07\x12\x0c\x0a\x07default\x12\x01t\x1a\x01a\x22\x02bc",
         Ok((7, 1, 1, Some(2))),
+    ),
+    // Unknown fields are passed over, of the table's message too.
+    (
+        b"\x28\x05\x08\x07\x32\x01x\x12\x05\x18\x01\x12\x01t",
+        Ok((7, 1, 0, None)),
+    ),
+    // Of two values the last counts, and of an end that is empty at last there is none.
+    (
+        b"\x08\x06\x08\x07\x12\x03\x12\x01t\x12\x04\x12\x02tu\x1a\x01a\x1a\x02bc",
+        Ok((7, 2, 2, None)),
+    ),
+    (
+        b"\x08\x07\x12\x06\x12\x01s\x12\x01t\x22\x01a\x22\x00",
+        Ok((7, 1, 0, None)),
     ),
     // Keys that are there and empty count as absent.
     (
