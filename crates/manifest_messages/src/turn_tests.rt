@@ -46,7 +46,10 @@ fn regions_are_turned(rt: HostRuntime) -> Result<(), Fail> {
         assert_eq!(rt; region(rt.alloc(), bytes.as_slice()), answer);
         for turn in [OTHER, WRONG] {
             let bytes = turned(rt.alloc(), REGION, at, turn)?;
-            assert_eq!(rt; region(rt.alloc(), bytes.as_slice()), Err(RecordError::BadRecord(at as u64)));
+            assert_eq!(rt;
+                region(rt.alloc(), bytes.as_slice()),
+                Err(RecordError::BadRecord(at as u64))
+            );
         }
     }
     Ok(())
@@ -74,7 +77,10 @@ fn manifests_are_turned(rt: HostRuntime) -> Result<(), Fail> {
         assert_eq!(rt; manifest(rt.alloc(), bytes.as_slice()), answer);
         for turn in [OTHER, WRONG] {
             let bytes = turned(rt.alloc(), MANIFEST, at, turn)?;
-            assert_eq!(rt; manifest(rt.alloc(), bytes.as_slice()), Err(RecordError::BadRecord(at as u64)));
+            assert_eq!(rt;
+                manifest(rt.alloc(), bytes.as_slice()),
+                Err(RecordError::BadRecord(at as u64))
+            );
         }
     }
     Ok(())

@@ -70,7 +70,7 @@ schema_written schema is short =
       spelled = (
         Last-one (Inner IsTableMessage) 1 (schema_parts schema) table schema.table (ap (λ (rest : List Part). table ∷ rest) (values_other family_schema_bytes 3 1 schema.families refl)) (table_written schema.table is.table),
         Repeated-all (Inner IsFamilySchema) 3 (schema_parts schema) _ schema.families (values_repeated family_schema_bytes 3 schema.families refl)
-        (Spell-repeated family_schema_bytes IsFamilySchema IsWritableFamily family_schema_written 3 schema.families is.families fit.1),
+            (Spell-repeated family_schema_bytes IsFamilySchema IsWritableFamily family_schema_written 3 schema.families is.families fit.1),
       );
       whole = refl;
     }
@@ -121,7 +121,7 @@ family_files_written family is short =
       spelled = (
         Last-one (Text IsFamilyName) 1 (family_files_parts family) name family.0 (ap (λ (rest : List Part). name ∷ rest) (values_other file_bytes 2 1 family.1 refl)) (is.name, refl),
         Repeated-all (Inner IsFile) 2 (family_files_parts family) _ family.1 (values_repeated file_bytes 2 family.1 refl)
-        (Spell-repeated file_bytes IsFile IsWritableInFamily file_written 2 family.1 is.files fit.1),
+            (Spell-repeated file_bytes IsFile IsWritableInFamily file_written 2 family.1 is.files fit.1),
       );
       whole = refl;
     }
@@ -156,7 +156,7 @@ region_manifest_written region is short =
       ),
     ) short in
     let each = Spell-repeated family_files_bytes IsFamilyFiles IsWritableFamilyFiles family_files_written 3 families (by_family-all region.files is.files)
-        (All-first IsPart (repeated 3 family_files_bytes families) (behind region.seq) fit.1.1) in
+    (All-first IsPart (repeated 3 family_files_bytes families) (behind region.seq) fit.1.1) in
     record {
       parts = parts;
       values = (Some 1, (Some region.info, (families, Some region.seq)));
@@ -189,9 +189,9 @@ manifest_written manifest is short =
       message = (fit, refl);
       spelled = (
         Last-one (Inner IsTableSchema) 1 (manifest_parts manifest) schema manifest.schema (ap (λ (rest : List Part). schema ∷ rest) (values_other region_manifest_bytes 2 1 manifest.regions refl))
-        (schema_written manifest.schema is.schema fit.0.1),
+            (schema_written manifest.schema is.schema fit.0.1),
         Repeated-all (Inner IsRegionManifest) 2 (manifest_parts manifest) _ manifest.regions (values_repeated region_manifest_bytes 2 manifest.regions refl)
-        (Spell-repeated region_manifest_bytes IsRegionManifest IsWritableRegionManifest region_manifest_written 2 manifest.regions is.regions fit.1),
+            (Spell-repeated region_manifest_bytes IsRegionManifest IsWritableRegionManifest region_manifest_written 2 manifest.regions is.regions fit.1),
       );
       whole = refl;
     }

@@ -44,7 +44,9 @@ fn region_of(
 }
 
 const FILE: &[u8] = b"0000000000000001000000000000000a";
+
 const LINK: &[u8] = b"t=0123456789abcdef0123456789abcdef-0000000000000001000000000000000a";
+
 const HALF: &[u8] = b"0000000000000001000000000000000a.0123456789abcdef0123456789abcdef";
 
 /// Files, and whether a region can have them.

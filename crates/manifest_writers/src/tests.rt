@@ -121,7 +121,11 @@ fn reference_again(alloc: Global, len: usize) -> Result<Option<usize>, Fail> {
     }
     write_reference(&reference, &mut out)?;
     let again = read_reference(alloc, out.as_slice())?;
-    Ok(if again == reference { Some(out.len()) } else { None })
+    Ok(if again == reference {
+        Some(out.len())
+    } else {
+        None
+    })
 }
 
 #[test]

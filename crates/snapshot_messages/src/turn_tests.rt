@@ -63,7 +63,10 @@ const REFERENCES: [(usize, u8, Reference); 10] = [
 #[test]
 fn references_are_cut_and_turned(rt: HostRuntime) -> Result<(), Fail> {
     for len in 0..10 {
-        assert_eq!(rt; reference(rt.alloc(), &REFERENCE[..len]), reference_cut(len));
+        assert_eq!(rt;
+            reference(rt.alloc(), &REFERENCE[..len]),
+            reference_cut(len)
+        );
     }
     for (at, turn, answer) in REFERENCES {
         let bytes = turned(rt.alloc(), REFERENCE, at, turn)?;

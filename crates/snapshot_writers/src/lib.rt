@@ -9,7 +9,9 @@ pub mod region;
 pub use info::write_snapshot_info;
 pub use laws::writings_told;
 pub use reference::{is_split_row, reference_message, write_reference};
-pub use region::{is_region_row, is_writable_region, region_message, table_message, write_region_info};
+pub use region::{
+    is_region_row, is_writable_region, region_message, table_message, write_region_info,
+};
 
 #[cfg(test)]
 mod tests;
