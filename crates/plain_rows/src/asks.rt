@@ -1,12 +1,12 @@
 //! What a line asks of the state.
 
-use crate::lines::printed;
+use crate::lines::cells_text;
 use crate::session::Session;
 use crate::trouble::Trouble;
 use crate::words::{row, table, word};
 use hb_records::RegionInfo;
 use hb_wire::{Blob, NoMemory};
-use plain_model::{PlainTable, RegionKey, Reply};
+use plain_model::{PlainTable, RegionKey};
 use plain_tables::regions::{is_open, region_in};
 use std::alloc::Global;
 
@@ -29,25 +29,28 @@ pub(crate) fn answer(session: &Session, line: &[u8]) -> Result<Blob, Trouble> {
 /// The key of the region of a table and row.
 fn key(session: &Session, line: &[u8]) -> Result<RegionKey, Trouble> {
     let table = table(session.alloc, word(line, 1))?;
-    session.key(&table, &row(session.alloc, word(line, 2))?)
+    let row = row(session.alloc, word(line, 2))?;
+    session.key(&table, &row)
 }
 
 fn number(session: &Session, line: &[u8]) -> Result<Blob, Trouble> {
     let key = key(session, line)?;
-    let text = format!(in session.alloc; "{}\n", session.machine.number(&key))?;
+    let number = session.machine.number(&key);
+    let text = format!(in session.alloc; "{number}\n")?;
     Ok(Blob::copy_of(session.alloc, text.as_bytes())?)
 }
 
 fn shown(session: &Session, line: &[u8]) -> Result<Blob, Trouble> {
-    let cells = session.machine.shown(&key(session, line)?)?;
-    Ok(printed(session.alloc, &Reply::Cells(cells))?)
+    let key = key(session, line)?;
+    let cells = session.machine.shown(&key)?;
+    cells_text(session.alloc, cells)
 }
 
 fn view(session: &Session, line: &[u8]) -> Result<Blob, Trouble> {
     let key = key(session, line)?;
     let from = row(session.alloc, word(line, 3))?;
     let cells = session.machine.view_from(&from, &key)?;
-    Ok(printed(session.alloc, &Reply::Cells(cells))?)
+    cells_text(session.alloc, cells)
 }
 
 fn found(session: &Session, line: &[u8]) -> Result<Blob, Trouble> {

@@ -78,8 +78,10 @@ pub(crate) fn made(alloc: Global) -> Result<Option<PlainTable>, Trouble> {
         schema: schema(alloc)?,
         regions: whole(alloc)?,
     };
-    let tables = tables_after(alloc, &Items::new(alloc), &BTreeMap::new(alloc), &event)?;
-    match table_at(tables.as_slice(), &table(alloc, b"t")?) {
+    let (none, snapshots) = (Items::new(alloc), BTreeMap::new(alloc));
+    let tables = tables_after(alloc, &none, &snapshots, &event)?;
+    let name = table(alloc, b"t")?;
+    match table_at(tables.as_slice(), &name) {
         Some(table) => Ok(Some(table.copy()?)),
         None => Ok(None),
     }
@@ -107,7 +109,8 @@ fn created(alloc: Global, snapshots: &Snapshots) -> Result<State, Trouble> {
         schema: schema(alloc)?,
         regions: whole(alloc)?,
     };
-    Ok(State::new(alloc).after(alloc, snapshots, &event)?)
+    let nothing = State::new(alloc);
+    Ok(nothing.after(alloc, snapshots, &event)?)
 }
 
 /// The job of a snapshot of the table.
@@ -125,7 +128,8 @@ fn begun(alloc: Global, snapshots: &Snapshots) -> Result<State, Trouble> {
         job: Some(taking(alloc)?),
         holds: Items::new(alloc),
     };
-    Ok(created(alloc, snapshots)?.after(alloc, snapshots, &event)?)
+    let created = created(alloc, snapshots)?;
+    Ok(created.after(alloc, snapshots, &event)?)
 }
 
 /// The names of the snapshots once that activity has completed its own.

@@ -1,14 +1,13 @@
 //! Single events, said in words.
 
-use crate::session::Session;
+use crate::holds::join;
+use crate::session::{Session, name_of};
 use crate::trouble::Trouble;
-use crate::words::{actor, number, part, rest, row, snapshot, table, word};
+use crate::words::{actor, number, part, rest, row, table, word};
 use hb_cell::{Cell, Kind};
 use hb_names::{Encoded, TableName};
 use hb_wire::{Blob, Copied, Items, NoMemory};
-use plain_model::{Event, Hold, RegionKey};
-use plain_tables::keys::key_of;
-use shell_lang::read_line;
+use plain_model::{Event, RegionKey};
 use std::alloc::Global;
 
 /// Makes the event happen that the words say.
@@ -85,8 +84,9 @@ fn leave(alloc: Global, line: &[u8]) -> Event {
 /// The encoded names of the split regions of a table.
 fn split_names(session: &Session, table: &TableName) -> Result<Items<Encoded>, NoMemory> {
     let mut names = Vec::new(session.alloc);
-    for region in session.regions(table, true)?.as_slice() {
-        names.push(key_of(session.alloc, region)?.region)?;
+    let split = session.regions(table, true)?;
+    for region in split.as_slice() {
+        names.push(name_of(session.alloc, region)?)?;
     }
     Ok(Items::from_vec(names))
 }
@@ -127,50 +127,4 @@ fn load(session: &Session, line: &[u8]) -> Result<Event, Trouble> {
         region: key(session, line, 1)?,
         cells: cells(session.alloc, word(line, 3))?,
     })
-}
-
-/// A hold, said as its kind and what it is on, with colons between.
-fn hold(session: &Session, text: &[u8]) -> Result<Hold, Trouble> {
-    let (alloc, on) = (session.alloc, part(text, b':', 1));
-    match part(text, b':', 0) {
-        b"table" => Ok(Hold::Table(table(alloc, on)?)),
-        b"use" => Ok(Hold::Use(snapshot(alloc, on)?)),
-        b"take" => Ok(Hold::Take(snapshot(alloc, on)?, table(alloc, part(text, b':', 2))?)),
-        b"region" => {
-            let table = table(alloc, on)?;
-            Ok(Hold::Region(session.key(&table, &row(alloc, part(text, b':', 2))?)?))
-        }
-        _ => Err(Trouble::Unreadable),
-    }
-}
-
-/// An activity joins: its number, its holds, and the line of the shell that asks for its job.
-fn join(session: &Session, line: &[u8]) -> Result<Event, Trouble> {
-    let job = read_line(session.alloc, &crate::lines::KINDS, rest(line, 3))?;
-    Ok(Event::At {
-        actor: actor(line, 1),
-        job: Some(job),
-        holds: holds(session, word(line, 2))?,
-    })
-}
-
-/// The holds of a text, with commas between; a dot is none.
-fn holds(session: &Session, text: &[u8]) -> Result<Items<Hold>, Trouble> {
-    let mut all = Items::new(session.alloc);
-    if text == b".".as_slice() {
-        return Ok(all);
-    }
-    for which in 0..text.len() {
-        let one = part(text, b',', which);
-        if !one.is_empty() {
-            all = with_hold(all, hold(session, one)?)?;
-        }
-    }
-    Ok(all)
-}
-
-fn with_hold(holds: Items<Hold>, hold: Hold) -> Result<Items<Hold>, NoMemory> {
-    let mut all = holds.into_vec();
-    all.push(hold)?;
-    Ok(Items::from_vec(all))
 }

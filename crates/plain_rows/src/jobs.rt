@@ -1,6 +1,6 @@
 //! What a job makes happen where it runs alone.
 
-use crate::session::Session;
+use crate::session::{Session, name_of};
 use crate::trouble::Trouble;
 use hb_cell::Cell;
 use hb_names::{FamilyName, SnapName, TableName};
@@ -34,7 +34,8 @@ fn scan(session: &Session, table: &TableName) -> Result<Reply, Trouble> {
         return Ok(refused);
     }
     let mut cells = Items::new(session.alloc);
-    for region in session.regions(table, false)?.as_slice() {
+    let open = session.regions(table, false)?;
+    for region in open.as_slice() {
         let key = key_of(session.alloc, region)?;
         let view = session.machine.view_from(&region.start, &key)?;
         cells = joined(cells, view.as_slice())?;
@@ -197,9 +198,9 @@ fn compact(session: &mut Session, table: &TableName, job: &Job) -> Result<(), Tr
 fn split(session: &mut Session, table: &TableName, row: &Blob) -> Result<(), Trouble> {
     let whole = session.region(table, row)?;
     flush_region(session, &whole)?;
-    let parent = key_of(session.alloc, &whole)?.region;
+    let parent = name_of(session.alloc, &whole)?;
     let low = region(session, table, &whole.start, Some(row.copy()?))?;
-    let high = region(session, table, row, whole.end)?;
+    let high = region(session, table, row, whole.end.copy()?)?;
     let table = table.copy()?;
     session.apply(&Event::Split {
         table,
@@ -222,8 +223,8 @@ fn capture(session: &mut Session, actor: Actor, region: &RegionInfo) -> Result<(
 
 /// The hold of an activity that takes a snapshot.
 fn take_hold(alloc: Global, table: &TableName, name: &SnapName) -> Result<Items<Hold>, NoMemory> {
-    let holds = vec![in alloc; Hold::Take(name.copy()?, table.copy()?)]?;
-    Ok(Items::from_vec(holds))
+    let hold = Hold::Take(name.copy()?, table.copy()?);
+    Ok(Items::from_vec(vec![in alloc; hold]?))
 }
 
 fn take(

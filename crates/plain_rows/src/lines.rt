@@ -1,5 +1,6 @@
 //! What a line prints.
 
+use crate::asks::region_lines;
 use crate::events::event;
 use crate::jobs::run;
 use crate::lists::{LISTS, agreeing};
@@ -8,7 +9,9 @@ use crate::session::Session;
 use crate::trouble::Trouble;
 use crate::words::{rest, word};
 use crate::{asks, calls};
-use hb_wire::{Blob, NoMemory};
+use hb_cell::Cell;
+use hb_names::SnapName;
+use hb_wire::{Blob, Items, NoMemory};
 use plain_model::Reply;
 use shell_lang::read_line;
 use shell_line::LineKind;
@@ -77,24 +80,41 @@ fn shell(session: &mut Session, line: &[u8]) -> Result<Blob, Trouble> {
 }
 
 /// The text of a reply.
-pub(crate) fn printed(alloc: Global, reply: &Reply) -> Result<Blob, NoMemory> {
+fn printed(alloc: Global, reply: &Reply) -> Result<Blob, NoMemory> {
     let mut text = Blob::copy_of(alloc, b"")?;
     print_reply(&mut text, reply)?;
     Ok(text)
 }
 
+/// The text of cells.
+pub(crate) fn cells_text(alloc: Global, cells: Items<Cell>) -> Result<Blob, Trouble> {
+    Ok(printed(alloc, &Reply::Cells(cells))?)
+}
+
+/// The text of snapshots.
+fn names_text(alloc: Global, names: Items<SnapName>) -> Result<Blob, Trouble> {
+    Ok(printed(alloc, &Reply::Snapshots(names))?)
+}
+
 /// What a single call answers.
 fn call(alloc: Global, line: &[u8]) -> Result<Blob, Trouble> {
     match word(line, 0) {
-        b"add" => Ok(printed(alloc, &Reply::Snapshots(calls::added(alloc)?))?),
-        b"change_snapshots" => Ok(printed(alloc, &Reply::Snapshots(calls::completed(alloc)?))?),
-        b"tables_after" => asks::region_lines(alloc, calls::made(alloc)?.as_ref()),
-        _ => Ok(printed(alloc, &Reply::Cells(calls::on_cells(alloc, line)?))?),
+        b"add" => names_text(alloc, calls::added(alloc)?),
+        b"change_snapshots" => names_text(alloc, calls::completed(alloc)?),
+        b"tables_after" => made(alloc),
+        _ => cells_text(alloc, calls::on_cells(alloc, line)?),
     }
+}
+
+/// The regions of a table that was made.
+fn made(alloc: Global) -> Result<Blob, Trouble> {
+    let table = calls::made(alloc)?;
+    region_lines(alloc, table.as_ref())
 }
 
 /// How many of the small lists of events agree with the list program.
 fn lists(alloc: Global) -> Result<Blob, Trouble> {
-    let text = format!(in alloc; "{} of {LISTS} lists agree\n", agreeing(alloc)?)?;
+    let count = agreeing(alloc)?;
+    let text = format!(in alloc; "{count} of {LISTS} lists agree\n")?;
     Ok(Blob::copy_of(alloc, text.as_bytes())?)
 }

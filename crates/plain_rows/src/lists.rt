@@ -131,7 +131,8 @@ fn begun(alloc: Global) -> Result<(Session, RegionKey), Trouble> {
     let table = table(alloc, b"t")?;
     let family = [FamilyName::read(alloc, b"f")?];
     create(&mut session, &table, &family, 1, &[])?;
-    let key = session.key(&table, &Blob::copy_of(alloc, b"")?)?;
+    let row = Blob::copy_of(alloc, b"")?;
+    let key = session.key(&table, &row)?;
     Ok((session, key))
 }
 
@@ -166,7 +167,8 @@ fn event(session: &Session, region: RegionKey, step: Step, letter: u8) -> Result
 /// The rows that a region shows.
 fn shown(session: &Session, region: &RegionKey) -> Result<Vec<u8>, NoMemory> {
     let mut letters = Vec::new(session.alloc);
-    for cell in session.machine.shown(region)?.as_slice() {
+    let cells = session.machine.shown(region)?;
+    for cell in cells.as_slice() {
         letters.extend_from_slice(cell.row.as_slice())?;
     }
     Ok(letters)
@@ -181,8 +183,9 @@ fn agrees(alloc: Global, list: u32) -> Result<bool, Trouble> {
         session.apply(&event)?;
         lists.step(step)?;
     }
-    let is_same = shown(&session, &key)?.as_slice() == lists.letters(alloc)?.as_slice();
-    Ok(is_same && session.machine.number(&key) == lists.number)
+    let (seen, expected) = (shown(&session, &key)?, lists.letters(alloc)?);
+    let is_numbered = session.machine.number(&key) == lists.number;
+    Ok(is_numbered && seen.as_slice() == expected.as_slice())
 }
 
 /// How many of the lists agree with the list program.

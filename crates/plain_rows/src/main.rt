@@ -4,6 +4,7 @@
 mod asks;
 mod calls;
 mod events;
+mod holds;
 mod jobs;
 mod lines;
 mod lists;

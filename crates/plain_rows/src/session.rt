@@ -1,7 +1,7 @@
 //! A plain machine that lines are run on.
 
 use crate::trouble::Trouble;
-use hb_names::TableName;
+use hb_names::{Encoded, TableName};
 use hb_records::RegionInfo;
 use hb_wire::{Blob, Copied, Items, NoMemory};
 use plain_machine::Plain;
@@ -98,4 +98,10 @@ fn marked(alloc: Global, table: &PlainTable, split: bool) -> Result<Items<Region
         }
     }
     Ok(Items::from_vec(some))
+}
+
+/// The encoded name of a region.
+pub(crate) fn name_of(alloc: Global, region: &RegionInfo) -> Result<Encoded, NoMemory> {
+    let RegionKey { region: name, .. } = key_of(alloc, region)?;
+    Ok(name)
 }
