@@ -1,7 +1,7 @@
 -- The cells of a data block, read one by one behind those before it.
-use Rattle.std.proofs.Common.{◌≡◌, ◌≢◌, ℕ, suc, ◌+◌, ◌-◌, ◌<◌, ◌≤◌, Bool, true, false, cond, eqb, List, [], ◌∷◌, ◌++◌, length, get_or, drop, Option, Some, None, Result, Ok, Err, refl, sym, ap, subst, ◌∙◌, append_assoc, arith}
+use Rattle.std.proofs.Common.{◌≡◌, ℕ, suc, ◌+◌, ◌-◌, ◌<◌, ◌≤◌, Bool, true, false, cond, eqb, List, [], ◌∷◌, ◌++◌, length, get_or, drop, Option, Some, None, Result, Ok, Err, refl, sym, ap, ◌∙◌, append_assoc, arith}
 use Rattle.std.proofs.lemmas.Bool.{ne_eqb, eqb-false}
-use Rattle.std.proofs.lemmas.List.{append-nil, length-append, length-drop}
+use Rattle.std.proofs.lemmas.List.{append-nil, length-drop}
 use Rattle.hb_cell.specs.declared.cell.Cell.{Cell}
 use Rattle.hb_cell.specs.declared.fault.CellError.{CellError}
 use Rattle.hb_cell.specs.declared.fault.CellError.TheVariants as causes
@@ -15,7 +15,7 @@ use Rattle.hfile_block.proofs.CellLists.{IsUpTo, IsUpTo-none, IsUpTo-push, IsUpT
 use Rattle.hfile_form.specs.Blocks.{◌>>=◌}
 use Rattle.hfile_form.specs.DataCells.{is_above, last_or, cells_at, misplaced, or_first, ordered, data_at}
 use Rattle.hfile_form.proofs.CellLaws.{last_or-append, misplaced-push, cells_at-cells_bytes, cells_at-fault}
-use Rattle.hfile_read.specs.Answers.{Says, Fails}
+use Rattle.hfile_read.specs.Answers.{Fails}
 
 -- some cells of the content stand behind those before it, up to a place, and the first that is misplaced is known
 pub record IsBehind (with_seq : Bool) (content : List ℕ) (at place : ℕ) (before cells : List Cell) (first : Option ℕ) : Type 0 where

@@ -1,5 +1,5 @@
 -- A whole file, by what its parts gave.
-use Rattle.std.proofs.Common.{◌≡◌, ℕ, Bool, true, false, List, length, take, drop, Result, Ok, Err, refl, sym, ap, subst, ◌∙◌, ◌⊎◌, inl, inr}
+use Rattle.std.proofs.Common.{◌≡◌, ℕ, Bool, false, List, length, take, drop, Result, Ok, Err, sym, ap, ◌∙◌, inl, inr}
 use Rattle.hb_cell.specs.declared.cell.Cell.{Cell}
 use Rattle.hfile_block.specs.declared.fault.HFileError.{HFileError}
 use Rattle.hfile_block.specs.declared.fault.HFileError.TheVariants as errors

@@ -1,11 +1,10 @@
 -- The nodes of the index, as a map and as a function of their places.
-use Rattle.std.proofs.Common.{◌≡◌, ℕ, Bool, true, false, cond, eqb, List, [], Option, Some, None, option_map, refl, sym, ap, ◌∙◌, arith}
+use Rattle.std.proofs.Common.{◌≡◌, ℕ, Bool, true, false, cond, eqb, List, [], Option, None, option_map, refl, ap, ◌∙◌, arith}
 use Rattle.std.proofs.Math.Path.{fun_ext}
 use Rattle.std.proofs.lemmas.Bool.Decides.{nat_tests}
 use Rattle.std.specs.Ordering.{nat_cmp}
 use Rattle.std.specs.Map.{lookup}
 use Rattle.std.specs.BTreeMap as tree
-use Rattle.hfile_form.specs.Front.{Node}
 use Rattle.hfile_read.specs.declared.front.ReadNode.{ReadNode}
 use Rattle.hfile_read.specs.Views.{node_view, nodes_view}
 

@@ -1,5 +1,5 @@
 -- Whether a trailer stands at the end of bytes can be told, and so what reading it answers.
-use Rattle.std.proofs.Common.{◌≡◌, ℕ, zero, suc, ◌+◌, ◌-◌, ◌^◌, ◌<◌, ◌≤◌, Bool, true, false, eqb, None, List, [], ◌∷◌, ◌++◌, length, get_or, take, drop, replicate, Option, Result, Ok, Err, refl, sym, ap, subst, ◌∙◌, append_assoc, ◌⊎◌, inl, inr, arith}
+use Rattle.std.proofs.Common.{◌≡◌, ℕ, zero, suc, ◌+◌, ◌-◌, ◌<◌, ◌≤◌, Bool, true, false, eqb, None, List, [], ◌∷◌, ◌++◌, length, get_or, take, drop, replicate, Option, Result, Ok, Err, refl, sym, ap, subst, ◌∙◌, append_assoc, ◌⊎◌, inl, inr, arith}
 use Rattle.std.specs.Prelude.{◌≢◌, IfOk, IfErr}
 use Rattle.std.proofs.lemmas.Bool.{eqb-true, eqb-false, cases_lt}
 use Rattle.std.proofs.lemmas.List.{take_at, drop_at, length-append, length-take, length-drop, length-replicate}
@@ -10,10 +10,9 @@ use Rattle.wire_fields.specs.declared.field.Field.{Field as ReadField}
 use Rattle.wire_fields.specs.Varint.{varint, varint_at}
 use Rattle.wire_fields.specs.Fields.{Part as Field, part_of, field_at}
 use Rattle.wire_fields.specs.Message.{IsMessage, later, number_here}
-use Rattle.wire_fields.proofs.FieldLaws.{IsField-field_at, found_field, some_field}
-use Rattle.wire_fields.proofs.Varints.{ok, ok_is, varint_at-varint}
+use Rattle.wire_fields.proofs.FieldLaws.{IsField-field_at, found_field}
+use Rattle.wire_fields.proofs.Varints.{ok_is, varint_at-varint}
 use Rattle.wire_fields.proofs.Messages.{IsWalk, IsWalk-none, IsWalk-push, found_walk, no_message}
-use Rattle.hfile_block.specs.declared.fault.HFileError.TheVariants as errors
 use Rattle.hfile_meta.specs.declared.fault.MetaError.{MetaError}
 use Rattle.hfile_meta.specs.declared.fault.MetaError.TheVariants as metas
 use Rattle.hfile_meta.specs.declared.trailer.Trailer.{Trailer}
@@ -149,11 +148,11 @@ parts_told bytes len used long fits read =
     elim (bytes_told (drop (trailer_at bytes) bytes) (trailer_bytes m z i)) [
       | inr differ ↦ inr (λ s. differ (moved bytes s len used (only s)).0)
       | inl whole ↦ elim (minor_told i) [
-      | inr other ↦ inr (λ s. other (moved bytes s len used (only s)).1)
-      | inl is_minor ↦ elim (message_told m (IsBytes-take len (drop used (body_of bytes)) (IsBytes-drop used (body_of bytes) (IsBytes-drop 8 (drop (trailer_at bytes) bytes) (IsBytes-drop (trailer_at bytes) bytes fits))))) [
-      | inr none ↦ inr (λ s. none (s.parts, (moved bytes s len used (only s)).2))
-      | inl found ↦ inl (record { message = m; parts = found.0; zeros = z; minor = i; trailer = record { is_minor = is_minor; whole = whole }; is = found.1 })
-      ]
+        | inr other ↦ inr (λ s. other (moved bytes s len used (only s)).1)
+        | inl is_minor ↦ elim (message_told m (IsBytes-take len (drop used (body_of bytes)) (IsBytes-drop used (body_of bytes) (IsBytes-drop 8 (drop (trailer_at bytes) bytes) (IsBytes-drop (trailer_at bytes) bytes fits))))) [
+          | inr none ↦ inr (λ s. none (s.parts, (moved bytes s len used (only s)).2))
+          | inl found ↦ inl (record { message = m; parts = found.0; zeros = z; minor = i; trailer = record { is_minor = is_minor; whole = whole }; is = found.1 })
+        ]
       ]
     ]
 
@@ -181,13 +180,13 @@ IsTrailerAnswer-from bytes r fits short version trailer none =
     elim (cases_lt (length bytes) 212) [
       | inl less ↦ subst (IsTrailerAnswer bytes) (sym (short less)) (tt, inl (less, refl))
       | inr long ↦ elim (number_told (major_of bytes) 2 (eqb (major_of bytes) 2) refl) [
-      | inr other ↦ subst (IsTrailerAnswer bytes) (sym (version long other)) (tt, inr (inl (long, other, refl)))
-      | inl major ↦ elim (trailer_told bytes long fits) [
-      | inl s ↦ tells_answer bytes r (s.message, s.parts, s.zeros, s.minor, long, s.trailer, s.is, trailer s.message s.parts s.zeros s.minor long s.trailer s.is)
-      | inr absent ↦
-          let nothing : (message : List ℕ) (parts : List (ℕ × Field)) (zeros minor : ℕ) → IsTrailer bytes message zeros minor → IsMessage message parts → ⊥ =
-          λ message parts zeros minor is of. absent (record { message = message; parts = parts; zeros = zeros; minor = minor; trailer = is; is = of }) in
-          subst (IsTrailerAnswer bytes) (sym (none long major nothing)) (tt, inr (inr (inl ((long, major, nothing), refl))))
-      ]
+        | inr other ↦ subst (IsTrailerAnswer bytes) (sym (version long other)) (tt, inr (inl (long, other, refl)))
+        | inl major ↦ elim (trailer_told bytes long fits) [
+          | inl s ↦ tells_answer bytes r (s.message, s.parts, s.zeros, s.minor, long, s.trailer, s.is, trailer s.message s.parts s.zeros s.minor long s.trailer s.is)
+          | inr absent ↦
+              let nothing : (message : List ℕ) (parts : List (ℕ × Field)) (zeros minor : ℕ) → IsTrailer bytes message zeros minor → IsMessage message parts → ⊥ =
+              λ message parts zeros minor is of. absent (record { message = message; parts = parts; zeros = zeros; minor = minor; trailer = is; is = of }) in
+              subst (IsTrailerAnswer bytes) (sym (none long major nothing)) (tt, inr (inr (inl ((long, major, nothing), refl))))
+        ]
       ]
     ]

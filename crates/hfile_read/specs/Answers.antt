@@ -1,5 +1,5 @@
 -- What a reader of a part of an HFile answers: what the test of this part gives, unless memory ran out.
-use Rattle.std.specs.Prelude.{◌≡◌, ℕ, Option, Result, Ok, Err}
+use Rattle.std.specs.Prelude.{◌≡◌, ℕ, Result, Ok, Err}
 use Rattle.hfile_block.specs.declared.fault.HFileError.{HFileError}
 use Rattle.hfile_block.specs.declared.fault.HFileError.TheVariants as errors
 use Rattle.hfile_index.specs.declared.fault.BadIndex.{BadIndex}

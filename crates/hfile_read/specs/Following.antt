@@ -1,5 +1,5 @@
 -- The index, as it is followed node by node.
-use Rattle.std.specs.Prelude.{◌≡◌, ℕ, ◌^◌, nat_lt, if◌then◌else◌, List, [], ◌∷◌, Option, Some, None, Result, Ok, Err}
+use Rattle.std.specs.Prelude.{ℕ, ◌^◌, nat_lt, if◌then◌else◌, List, [], ◌∷◌, Option, Some, None, Result, Ok, Err}
 use Rattle.std.specs.Vec.Iter.{into_iter_items}
 use Rattle.hb_cell.specs.declared.cell.Cell.{Cell}
 use Rattle.hfile_block.specs.declared.fault.HFileError.{HFileError}

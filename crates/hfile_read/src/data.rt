@@ -66,8 +66,7 @@ pub fn add_cells(
     while place < content.len() {
         match decode_cell(alloc, content, place, with_seq) {
             Ok((cell, used)) => {
-                misplaced =
-                    first_misplaced(misplaced, cells.as_slice(), &cell, at + place as u64);
+                misplaced = first_misplaced(misplaced, cells.as_slice(), &cell, at + place as u64);
                 cells.push(cell)?;
                 place += used;
             }

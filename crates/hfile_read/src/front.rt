@@ -74,7 +74,13 @@ impl<'a> ReadFront<'a> {
     {
         let before = self.cells.len();
         let content_at = at + HEADER_LEN as u64;
-        add_cells(alloc, block.content(), content_at, with_seq, &mut self.cells)?;
+        add_cells(
+            alloc,
+            block.content(),
+            content_at,
+            with_seq,
+            &mut self.cells,
+        )?;
         let size = block.size();
         self.datas.push(DataBlock { at, size, before })?;
         Ok(())

@@ -1,4 +1,4 @@
-use Rattle.std.proofs.Common.{◌≡◌, ◌+◌, ◌<◌, ℕ, cond, List, length, Option, Some, None, sym, ap, subst, ◌∙◌}
+use Rattle.std.proofs.Common.{◌+◌, ℕ, cond, List, Option, Some, None, sym, ap, subst, ◌∙◌}
 use Rattle.hb_cell.specs.declared.cell.Cell.{Cell}
 use Rattle.hfile_form.specs.DataCells.{is_above, last_or, or_first, data_at}
 use Rattle.hfile_read.specs.Answers.{Fails}

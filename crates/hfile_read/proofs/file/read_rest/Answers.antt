@@ -1,4 +1,4 @@
-use Rattle.std.proofs.Common.{◌≡◌, ◌+◌, List, ℕ, length, take, drop, Ok, sym, ap, subst, ◌∙◌, arith}
+use Rattle.std.proofs.Common.{◌≡◌, ◌+◌, List, ℕ, length, drop, Ok, ap, subst, arith}
 use Rattle.std.proofs.lemmas.List.{length-take, length-drop}
 use Rattle.std.proofs.lemmas.Result.{err_from_is_err_and}
 use Rattle.hb_cell.specs.declared.cell.Cell.{Cell}
@@ -8,7 +8,7 @@ use Rattle.hfile_form.specs.Blocks.{blocks_at}
 use Rattle.hfile_form.specs.Front.{no_front, taken}
 use Rattle.hfile_form.specs.File.{passed, in_index, index_of}
 use Rattle.hfile_read.specs.Answers.{Fails}
-use Rattle.hfile_read.specs.Views.{block_view, front_view, nodes_view, opened_view}
+use Rattle.hfile_read.specs.Views.{front_view, nodes_view, opened_view}
 use Rattle.hfile_read.proofs.Files.{wrong_others, wrong_index}
 use Rattle.hfile_read.proofs.file.read_rest.Goals as goal
 

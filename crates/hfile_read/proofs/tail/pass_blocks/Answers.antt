@@ -1,8 +1,8 @@
-use Rattle.std.proofs.Common.{◌≡◌, ◌+◌, List, ℕ, length, drop, Ok, sym, ap, subst, ◌∙◌, refl}
+use Rattle.std.proofs.Common.{sym, ◌∙◌, refl}
 use Rattle.hfile_form.specs.declared.section.Section.TheVariants as sections
 use Rattle.hfile_form.specs.File.{passed}
 use Rattle.hfile_read.specs.Views.{block_view}
-use Rattle.hfile_read.proofs.Steps.{IsLeft, IsLeft-next, IsLeft-block_wrong, IsLeft-none, some_left, none_left, moved_left}
+use Rattle.hfile_read.proofs.Steps.{IsLeft-next, IsLeft-block_wrong, IsLeft-none, some_left, none_left, moved_left}
 use Rattle.std.proofs.lemmas.Result.{err_from_is_err_and}
 use Rattle.hfile_read.proofs.tail.pass_blocks.Goals as goal
 

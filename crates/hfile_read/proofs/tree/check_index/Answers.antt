@@ -1,4 +1,4 @@
-use Rattle.std.proofs.Common.{sym, ap, subst}
+use Rattle.std.proofs.Common.{sym, subst}
 use Rattle.hfile_form.specs.File.{in_index, index_of}
 use Rattle.hfile_read.specs.Answers.{Fails}
 use Rattle.hfile_read.specs.Views.{block_view, left_view, front_of}

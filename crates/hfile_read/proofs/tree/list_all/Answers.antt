@@ -1,4 +1,4 @@
-use Rattle.std.proofs.Common.{◌≡◌, ◌-◌, List, [], ◌∷◌, Result, ℕ, sym, ap, ◌∙◌, refl}
+use Rattle.std.proofs.Common.{◌-◌, [], ◌∷◌, sym, ap, ◌∙◌, refl}
 use Rattle.std.proofs.lemmas.Result.{err_from_is_err_and}
 use Rattle.hfile_form.specs.Index.{Left, lists_all, index_from, ◌>>=◌}
 use Rattle.hfile_read.specs.declared.tree.NodeEntries.{NodeEntries}

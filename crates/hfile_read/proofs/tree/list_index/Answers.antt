@@ -1,4 +1,4 @@
-use Rattle.std.proofs.Common.{◌≡◌, List, ℕ, Result, Ok, sym, ap, subst, ◌∙◌}
+use Rattle.std.proofs.Common.{List, ℕ, Result, sym, ap, subst, ◌∙◌}
 use Rattle.std.proofs.lemmas.Result.{err_from_is_err_and}
 use Rattle.hfile_read.specs.Answers.{IsWrong, Finds}
 use Rattle.hfile_read.specs.Views.{block_view, left_view, front_of}
