@@ -179,14 +179,14 @@ no_cons (b ∷ bs) x xs e = absurd (cc)
 tails : {A : Type 0} {x y : A} {xs ys : List A} → x ∷ xs ≡ y ∷ ys → xs ≡ ys
 tails e = (cc)
 
-not_two : {P A : Type 0} (z : A) (before between behind : List A) (x y : A) → z ∷ [] ≡ before ++ (x ∷ between ++ (y ∷ behind)) → P
+pub not_two : {P A : Type 0} (z : A) (before between behind : List A) (x y : A) → z ∷ [] ≡ before ++ (x ∷ between ++ (y ∷ behind)) → P
 not_two z [] between behind x y e = no_cons between y behind (tails e)
 not_two z (b ∷ bs) between behind x y e = no_cons bs x _ (tails e)
 
 no_key : {X P : Type 0} (name : List ℕ) (x : X) → get (empty {R = bytes_cmp}) name ≡ Some x → P
 no_key {X} name x e = let z : None ≡ Some x = sym (get-empty bytes_cmp name) ∙ e in absurd (cc)
 
-no_region : {P : Type 0} (r : RegionKey) → IsRegion no_tables r → P
+pub no_region : {P : Type 0} (r : RegionKey) → IsRegion no_tables r → P
 no_region r (inl i) = no_key r.table i.table i.stands
 no_region r (inr i) = no_key r.table i.table i.stands
 
@@ -229,7 +229,7 @@ write_set_allowed ttl = record { live = refl; new = sym first_name; gives = refl
 abbrev Versions : Type 0
 Versions = List (List ℕ × ℕ)
 
-families_are : entries {X = ℕ} {R = bytes_cmp} (insert empty (codes "f") 1) ≡ (codes "f", 1) ∷ []
+pub families_are : entries {X = ℕ} {R = bytes_cmp} (insert empty (codes "f") 1) ≡ (codes "f", 1) ∷ []
 families_are = entries-insert nat_list_cmp_total (empty {X = ℕ} {R = bytes_cmp}) (codes "f") 1 ∙ ap (λ (es : Versions). put bytes_cmp (codes "f") 1 es) no_entries
 
 pub commit_set_allowed : (ttl : ℕ) → IsRegionSet (codes "t") set → Allows commit_set (s2 ttl)

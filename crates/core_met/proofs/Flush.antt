@@ -33,11 +33,13 @@ use Rattle.core_model.specs.Allows.{Allows}
 use Rattle.core_model.specs.Entries.{IsBase, no_list, region_list}
 use Rattle.core_model.specs.FileGuards.{next_name}
 use Rattle.core_model.specs.Replay.{after}
-use Rattle.core_model.specs.StartGuards.{split_keys, by_new, by_drawn, by_set, by_directory}
+use Rattle.core_model.specs.Disk.{live_of}
+use Rattle.core_model.specs.StartGuards.{split_keys}
 use Rattle.core_model.specs.State.{Parts, no_plan}
 use Rattle.core_sound.proofs.TablesKept.{put_this}
 use Rattle.core_met.specs.Met.{cell}
 use Rattle.core_met.proofs.Begin.{info, key, key_is, tab, who, s4, no_tables, no_entries}
+use Rattle.core_met.proofs.Starts.{none_unreferenced, no_new_files}
 
 abbrev pub tables : Names PlainTable
 tables = insert no_tables (codes "t") tab
@@ -52,7 +54,7 @@ tables_are = entries-insert nat_list_cmp_total no_tables (codes "t") tab ∙ ap 
 abbrev pub t0 : ℕ → Parts
 t0 ttl = record (s4 ttl) { lists = λ r. no_list; plain = record (s4 ttl).plain { stable = λ k. []; mem = λ k. []; frozen = λ k. 0; seq = λ k. 0; kept = λ k. 0 } }
 
-flat : {A : Type 0} (v : A) (k : RegionKey) → set_each (each_with v (info ∷ [])) (λ k. v) k ≡ v
+pub flat : {A : Type 0} (v : A) (k : RegionKey) → set_each (each_with v (info ∷ [])) (λ k. v) k ≡ v
 flat v k = elim (same_key k (key_of info)) as (λ b. cond b v v ≡ v) [ true ↦ refl | false ↦ refl ]
 
 pub table_made : (ttl : ℕ) → s4 ttl ≡ t0 ttl
@@ -143,22 +145,18 @@ put_allowed ttl = record {
   );
 }
 
-pub no_cons : {P A : Type 0} (before : List A) (x : A) (xs : List A) → [] ≡ before ++ (x ∷ xs) → P
-no_cons [] x xs e = absurd (cc)
-no_cons (b ∷ bs) x xs e = absurd (cc)
+pub none_split : flat_map (λ (x : List ℕ × PlainTable). split_keys x.1) (entries tables) ≡ []
+none_split = ap (λ es. flat_map (λ (x : List ℕ × PlainTable). split_keys x.1) es) tables_are
 
 pub start_allowed : (ttl : ℕ) → Allows start (t1 ttl)
 start_allowed ttl = record {
   activity = tt;
   unreferenced = [];
-  are_unreferenced = record { is_old = λ r. true; exact = λ r. (λ e. absurd (cc), λ i. let z = i.stands in absurd (cc)); filtered = sym (ap (λ es. filter (λ (r : RegionKey). true) (flat_map (λ (x : List ℕ × PlainTable). split_keys x.1) es)) tables_are) };
+  are_unreferenced = none_unreferenced (live_of (t1 ttl).disk) (t1 ttl).plain (λ b f e. absurd (cc)) none_split;
   holds = ap (λ (r : RegionKey). holds.Flush r ∷ []) (sym key_is) ∙ sym (ap (λ (o : Option PlainTable). map holds.Flush (map key_of (open_of (regions_in o)))) table_is);
   free = refl;
   files = no_files;
-  are_files = record {
-    name_taken = (λ e. absurd (cc), λ i. elim i [ by_new before between behind r q e d ↦ no_cons before r _ e | by_drawn r m d ↦ absurd m | by_set r m d ↦ absurd m | by_directory r m d ↦ absurd m ]);
-    has_references = (λ e. absurd (cc), λ i. let z = i.splits in absurd (cc));
-  };
+  are_files = no_new_files (jobs.Flush (codes "t")) (t1 ttl) refl;
   answered = (
     ap (λ (o : Option PlainTable). unwrap_or (first (when (not (is_some o)) TableNotFound ∷ when (not (is_enabled_in o)) TableNotEnabled ∷ [])) Fine) table_is,
     record { number = refl; regions = refl; moment = refl; plan = refl; staged = refl },

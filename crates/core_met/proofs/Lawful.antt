@@ -12,15 +12,15 @@ use Rattle.core_model.specs.Entries.{IsBase}
 use Rattle.core_met.proofs.Begin.{key, set}
 use Rattle.core_met.proofs.Flush.{base, name2, second_name}
 
-table_lawful : IsTableName (codes "t")
+pub table_lawful : IsTableName (codes "t")
 unfolding has
 table_lawful = record { front = codes "t"; back = []; whole = refl; in_first = record { long = refl; each = (refl, tt) }; in_second = record { least = (omega arith); most = (omega arith); each = tt } }
 
-family_lawful : IsFamilyName (codes "f")
+pub family_lawful : IsFamilyName (codes "f")
 unfolding has
 family_lawful = record { front = codes "f"; back = []; whole = refl; in_first = record { long = refl; each = (refl, tt) }; in_second = record { least = (omega arith); most = (omega arith); each = tt } }
 
-region_lawful : IsEncoded key.region
+pub region_lawful : IsEncoded key.region
 unfolding has
 region_lawful = record {
   long = refl;

@@ -3,3 +3,4 @@ pub mod Flush
 pub mod Journal
 pub mod Lawful
 pub mod Shot
+pub mod Starts

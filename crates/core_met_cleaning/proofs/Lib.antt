@@ -1,0 +1,4 @@
+pub mod Cleaning
+pub mod Compacting
+pub mod Journal
+pub mod Lawful

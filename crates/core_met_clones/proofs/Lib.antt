@@ -1,0 +1,4 @@
+pub mod Cloning
+pub mod Dropping
+pub mod Journal
+pub mod Lawful

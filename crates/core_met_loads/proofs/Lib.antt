@@ -1,0 +1,4 @@
+pub mod Journal
+pub mod Loading
+pub mod Tabled
+pub mod Waiting
