@@ -201,14 +201,17 @@ clone_made ttl = λ i. record (v7 ttl) { plain = record (v7 ttl).plain { tables 
 
 -- ---- each step is allowed
 
-shot_is : get (insert empty (codes "n") shot) (codes "n") ≡ Some shot
+abbrev shots : Names Snapshot
+shots = insert empty (codes "n") shot
+
+shot_is : get shots (codes "n") ≡ Some shot
 shot_is = put_this empty (codes "n") shot
 
 -- the regions to be made, with the plan of them
 abbrev planned : Option Snapshot → Plan
 planned o = let rs = copied_regions (codes "c") 4294967298 (regions_in o) in record { regions = rs; entries = copies_in (zip rs (regions_in o)) }
 
-plan_is : planned (get (insert empty (codes "n") shot) (codes "n")) ≡ plan
+plan_is : planned (get shots (codes "n")) ≡ plan
 plan_is = ap planned shot_is ∙ ap (λ (k : RegionKey). record { regions = info2 ∷ []; entries = (k.region, Link base) ∷ [] }) key2_is
 
 no_clone : get tables (codes "c") ≡ None
