@@ -1,4 +1,5 @@
 pub mod Begin
+pub mod Choices
 pub mod Flush
 pub mod Journal
 pub mod Lawful

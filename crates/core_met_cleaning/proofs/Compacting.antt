@@ -4,6 +4,7 @@ use Rattle.std.specs.Prelude.{codes, map, not, unwrap_or, is_some, Ok}
 use Rattle.std.specs.FinMap.{get}
 use Rattle.hex.specs.Hex.{encode_with}
 use Rattle.hb_cell.specs.declared.cell.Cell.{Cell}
+use Rattle.hb_cell.specs.Order.{same_bytes}
 use Rattle.hb_layout.specs.declared.base.Base.{Base}
 use Rattle.ns_tree.specs.declared.file.FileState.{FileState}
 use Rattle.plain_model.specs.declared.hold.Hold.TheVariants as holds
@@ -39,6 +40,7 @@ use Rattle.core_model.specs.State.{Parts, Pinned, no_plan}
 use Rattle.core_sound.proofs.Tests.{cond_cases, same_key-true}
 use Rattle.core_met.specs.Met.{cell}
 use Rattle.core_met.proofs.Begin.{info, key, key_is, schema, who}
+use Rattle.core_met.proofs.Choices.{chosen, chosen_each}
 use Rattle.core_met.proofs.Flush.{base, tables, table_is, none_split, in_set, list}
 use Rattle.core_met.proofs.Lawful.{base_lawful}
 use Rattle.core_met.proofs.Shot.{u0, plain_name}
@@ -222,25 +224,17 @@ commit_allowed ttl = record {
 pub unpin_allowed : (ttl : ℕ) → Allows unpin (c6 ttl)
 unpin_allowed ttl = (refl, λ e. absurd (cc))
 
+two_files : {P : Type 0} → Own output ≡ Own base → P
+two_files e = let z : true ≡ false = ap (λ (x : Entry). same_bytes (base_of x).name name4) e in absurd (cc)
+
 -- the newest lists have the other file alone
 not_listed : {P : Type 0} (r : RegionKey) (l : RegionFiles) → cond (same_key r key) list2 (cond (same_key r key) list no_list) ≡ l → Member (Own base) l.entries → P
-not_listed r l e m = (elim (same_key r key) as (λ b. cond b list2 (cond b list no_list) ≡ l → P) [
-  | true ↦ λ e. (elim (subst (λ (x : RegionFiles). Member (Own base) x.entries) (sym e) m) [ inl k ↦ two_files k | inr k ↦ absurd k ])
-  | false ↦ λ e. absurd (subst (λ (x : RegionFiles). Member (Own base) x.entries) (sym e) m)
-]) e
-  where
-    two_files : {P : Type 0} → Own output ≡ Own base → P
-    two_files e = let z : name4 ≡ base.name = ap (λ (x : Entry). (base_of x).name) e in absurd (cc)
-
-flat : {A : Type 0} (b : Bool) (x y : A) → y ≡ x → cond b x y ≡ x
-flat true x y e = refl
-flat false x y e = e
+not_listed {P} r l e m = cond_cases (same_key r key) list2 (cond (same_key r key) list no_list) l e
+    (λ d i. (elim (subst (λ (x : RegionFiles). Member (Own base) x.entries) (sym i) m) as (λ z. P) [ inl k ↦ two_files k | inr k ↦ absurd k ]))
+    (λ d i. absurd (subst (λ (x : RegionFiles). Member (Own base) x.entries) (sym i ∙ ap (λ b. cond b list no_list) d) m))
 
 none_pinned : (ttl a : ℕ) → (c7 ttl).pins a ≡ []
-none_pinned ttl a = elim (a == 2) as (λ b. cond b [] (cond b (record { region = key; entries = Own base ∷ []; fresh = false } ∷ []) (cond b (record { region = key; entries = Own base ∷ []; fresh = true } ∷ []) (cond (a == 1) [] (cond (a == 1) [] (cond (a == 0) [] []))))) ≡ []) [
-  | true ↦ refl
-  | false ↦ flat (a == 1) [] _ (flat (a == 1) [] _ (flat (a == 0) [] [] refl))
-]
+none_pinned ttl a = chosen_each (a == 2) [] _ _ _ (chosen (a == 1) [] _ (chosen (a == 1) [] _ (chosen (a == 0) [] [] refl)))
 
 free : (ttl : ℕ) → IsFree base tables (c7 ttl).lists (c7 ttl).pins (c7 ttl).waiting
 free ttl = record {

@@ -46,6 +46,7 @@ use Rattle.region_set.specs.RegionSet.{IsRegionSet}
 use Rattle.core_sound.proofs.Tests.{cond_cases, same_base-true, same_key-true}
 use Rattle.core_sound.proofs.TablesKept.{put_this, put_other, taken_at, taken_other}
 use Rattle.core_met.proofs.Begin.{info, key, key_is, schema, set, tab, who}
+use Rattle.core_met.proofs.Choices.{chosen}
 use Rattle.core_met.proofs.Flush.{base, tables, table_is, tables_are, list}
 use Rattle.core_met.proofs.Lawful.{base_lawful}
 use Rattle.core_met.proofs.Starts.{has_dot, none_unreferenced, no_new_files}
@@ -280,12 +281,8 @@ not_listed r l e i m = cond_cases (same_key r key2) list2 (cond (same_key r (key
             (λ d k. not_first (subst (IsRegion tables4) (same_key-true r key d) i))
             (λ d k. absurd (subst (λ (x : RegionFiles). Member (Own base) x.entries) (sym k) m))))
 
-flat : {A : Type 0} (b : Bool) (x y : A) → y ≡ x → cond b x y ≡ x
-flat true x y e = refl
-flat false x y e = e
-
 none_pinned : (ttl a : ℕ) → (x4 ttl).pins a ≡ []
-none_pinned ttl a = flat (a == 4) [] _ (flat (a == 3) [] _ (flat (a == 3) [] _ (flat (a == 2) [] _ (flat (a == 1) [] _ (flat (a == 1) [] _ (flat (a == 0) [] [] refl))))))
+none_pinned ttl a = chosen (a == 4) [] _ (chosen (a == 3) [] _ (chosen (a == 3) [] _ (chosen (a == 2) [] _ (chosen (a == 1) [] _ (chosen (a == 1) [] _ (chosen (a == 0) [] [] refl))))))
 
 free : (ttl : ℕ) → IsFree base tables4 (x4 ttl).lists (x4 ttl).pins (x4 ttl).waiting
 free ttl = record {
