@@ -1,6 +1,7 @@
 -- The names and the region set of the journal are in their grammars.
-use Rattle.std.proofs.Common.{refl, arith}
+use Rattle.std.proofs.Common.{zero, suc, refl, arith}
 use Rattle.std.specs.Prelude.{codes}
+use Rattle.hex.specs.Hex.{IsBytes}
 use Rattle.hb_grammar.specs.Class.{has}
 use Rattle.hb_names.specs.Encoded.{IsEncoded}
 use Rattle.region_set.specs.RegionLine.{IsRow}
@@ -24,8 +25,12 @@ low_lawful = record { table = table_lawful; region = low_region }
 pub high_lawful : IsKey high_key
 high_lawful = record { table = table_lawful; region = high_region }
 
+row_small : IsBytes row
+row_small zero = (omega arith)
+row_small (suc i) = (omega arith)
+
 row_lawful : IsRow row
-row_lawful = record { small = ?; limit = (omega arith) }
+row_lawful = record { small = row_small; limit = (omega arith) }
 
 pub set2_lawful : IsRegionSet (codes "t") set2
 set2_lawful = record {

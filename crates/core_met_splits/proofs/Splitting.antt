@@ -316,7 +316,7 @@ is_new ttl (by_directory r (inr (inr z)) d) = absurd z
 
 -- no list has a half yet
 whole : {P : Type 0} (r : RegionKey) (e : Entry) → Member e (cond (same_key r key) list no_list).entries → is_half e ≡ true → P
-whole r e m i = (elim (same_key r key) as (λ b. Member e (cond b list no_list).entries → P) [
+whole {P} r e m i = (elim (same_key r key) as (λ b. Member e (cond b list no_list).entries → P) [
   | true ↦ λ m. elim m [ inl k ↦ (let z : false ≡ true = ap is_half k ∙ i in absurd (cc)) | inr z ↦ absurd z ]
   | false ↦ λ m. absurd m
 ]) m
