@@ -127,15 +127,18 @@ b6 ttl = after loaded (b5 ttl)
 
 -- ---- each step is allowed
 
--- the names of a file that waits in the folder
-stands_as : (family name : List ℕ) (p : List ℕ) → (true && (same_bytes family p && same_bytes name (codes "x"))) ≡ true → (p, codes "x") ≡ (family, name)
-stands_as family name p e = λ i. (sym (same_bytes-true family p (both_left (same_bytes family p) _ e)) i, sym (same_bytes-true name (codes "x") (both_right (same_bytes family p) _ e)) i)
+abbrev Named : Type 0
+Named = List ℕ × List ℕ
+
+-- two files of the folder whose families and names are the same
+stands_as : (x y : Named) → (same_bytes x.0 y.0 && same_bytes x.1 y.1) ≡ true → y ≡ x
+stands_as x y e = λ i. (sym (same_bytes-true x.0 y.0 (both_left (same_bytes x.0 y.0) _ e)) i, sym (same_bytes-true x.1 y.1 (both_right (same_bytes x.0 y.0) _ e)) i)
 
 listed : (ttl : ℕ) (family name : List ℕ) (f : FileState) → (b0 ttl).disk (Staged (codes "d") family name) ≡ Some f → Member (family, name) files
 listed ttl family name f e = cond_cases (same_bytes family (codes "g") && same_bytes name (codes "x")) (Some empty_file) (cond (same_bytes family (codes "f") && same_bytes name (codes "x")) (Some empty_file) None) (Some f) e
-    (λ d i. inr (inl (stands_as family name (codes "g") d)))
+    (λ d i. inr (inl (stands_as (family, name) (codes "g", codes "x") d)))
     (λ d i. cond_cases (same_bytes family (codes "f") && same_bytes name (codes "x")) (Some empty_file) None (Some f) i
-        (λ d i. inl (stands_as family name (codes "f") d))
+        (λ d i. inl (stands_as (family, name) (codes "f", codes "x") d))
         (λ d i. absurd (cc)))
 
 waits : (ttl : ℕ) (x : List ℕ × List ℕ) → Member x files → (f : FileState) × ((b0 ttl).disk (Staged (codes "d") x.0 x.1) ≡ Some f)

@@ -17,11 +17,11 @@ use Rattle.ns_tree.specs.Tree.{Tree}
 use Rattle.ns_tree.proofs.Trees.{IsTree-empty}
 use Rattle.plain_model.specs.declared.region_key.RegionKey.{RegionKey}
 use Rattle.core_model.specs.Actors.{IsRegion, Counts}
-use Rattle.core_model.specs.Disk.{Disk, Create, Nothing, disk_of, disk_after, is_regular, live_of, archived_of, at_place}
+use Rattle.core_model.specs.Disk.{Disk, Create, Nothing, disk_of, disk_after, is_regular, live_of, archived_of, at_place, or_else}
 use Rattle.core_model.specs.Entries.{Made, no_list, file_of}
 use Rattle.core_model.specs.FileChanges.{size_in}
 use Rattle.core_model.specs.Named.{Named, listed, in_snapshot, captured, planned, pinned, linked}
-use Rattle.core_model.specs.Opened.{opened, found_cells, read_base, or_else}
+use Rattle.core_model.specs.Opened.{opened, found_cells, read_base}
 use Rattle.core_model.specs.Site.{Site, Live, Archived, Staged, site_text, spot_of, pointer_at, is_store_name}
 use Rattle.core_model.specs.Sound.{IsSound}
 use Rattle.core_model.specs.State.{Parts, no_plan}
@@ -34,10 +34,13 @@ use Rattle.core_met_loads.specs.Loaded.{cell_of, waits_at, empty_file, waiting_t
 
 -- ---- what stands where
 
-nothing : (q : Site) → disk_of empty q ≡ None
-nothing q = elim (is_regular q) as (λ b. cond b (get empty (site_text q)) None ≡ None) [ true ↦ get-empty {X = FileState} (slice_cmp nat_cmp) (site_text q) | false ↦ refl ]
+abbrev bare : Tree
+bare = empty
 
-none_shown : Shows empty (λ p. None)
+nothing : (q : Site) → disk_of bare q ≡ None
+nothing q = elim (is_regular q) as (λ b. cond b (get bare (site_text q)) None ≡ None) [ true ↦ get-empty (slice_cmp nat_cmp) (site_text q) | false ↦ refl ]
+
+none_shown : Shows bare (λ p. None)
 none_shown = record { files = IsTree-empty; sites = λ place stands. absurd (true≢false (sym stands ∙ ap is_some (get-empty {X = FileState} (slice_cmp nat_cmp) place))); at = nothing }
 
 folder_lawful : IsComponent (codes "d")
