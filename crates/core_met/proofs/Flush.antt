@@ -1,6 +1,6 @@
 -- A journal that makes a table, puts a cell and flushes it.
-use Rattle.std.proofs.Common.{◌≡◌, ℕ, ◌++◌, true, false, cond, List, [], ◌∷◌, Option, Some, None, refl, sym, ap, ◌∙◌, inl, arith}
-use Rattle.std.specs.Prelude.{codes, map, not, filter, option_map, unwrap_or, is_some}
+use Rattle.std.proofs.Common.{◌≡◌, ℕ, true, false, cond, List, [], ◌∷◌, Option, Some, None, refl, sym, ap, ◌∙◌, inl, arith}
+use Rattle.std.specs.Prelude.{codes, map, not, option_map, unwrap_or, is_some}
 use Rattle.std.specs.List.{flat_map, list_any}
 use Rattle.std.specs.FinMap.{get, entries, insert, put, entries-insert}
 use Rattle.std.specs.Cmp.Lexicographic.{nat_list_cmp_total}

@@ -1,7 +1,7 @@
 -- A snapshot of the table behind the flush.
-use Rattle.std.proofs.Common.{◌≡◌, ℕ, ◌++◌, true, false, cond, List, [], ◌∷◌, Option, Some, None, refl, sym, ap, ◌∙◌, subst, inl}
-use Rattle.std.specs.Prelude.{codes, map, not, filter, option_map, unwrap_or, is_some}
-use Rattle.std.specs.List.{flat_map, filter_map, cons_option, AllByRecursion}
+use Rattle.std.proofs.Common.{◌≡◌, ℕ, true, false, cond, [], ◌∷◌, Option, Some, None, refl, sym, ap, ◌∙◌, subst, inl}
+use Rattle.std.specs.Prelude.{codes, map, not, option_map, unwrap_or, is_some}
+use Rattle.std.specs.List.{filter_map, cons_option, AllByRecursion}
 use Rattle.std.specs.FinMap.{get, empty, get-empty}
 use Rattle.hb_cell.specs.Order.{bytes_cmp}
 use Rattle.hb_layout.specs.declared.base.Base.{Base}
@@ -24,7 +24,6 @@ use Rattle.plain_model.specs.Plain.{Plain}
 use Rattle.plain_model.specs.Replies.{first, when, no_files}
 use Rattle.plain_model.specs.Rows.{open_of}
 use Rattle.core_model.specs.declared.region_files.RegionFiles.{RegionFiles}
-use Rattle.core_model.specs.declared.snapshot.CopiedRegion.{CopiedRegion}
 use Rattle.core_model.specs.declared.snapshot.Snapshot.{Snapshot}
 use Rattle.core_model.specs.declared.step.Started.TheVariants as started
 use Rattle.core_model.specs.declared.step.Step.{Step}
@@ -36,7 +35,6 @@ use Rattle.core_model.specs.Replay.{after}
 use Rattle.core_model.specs.SnapshotGuards.{snapshot_of, copied}
 use Rattle.core_model.specs.State.{Parts, no_plan}
 use Rattle.core_sound.proofs.TablesKept.{put_this}
-use Rattle.core_met.specs.Met.{cell}
 use Rattle.core_met.proofs.Begin.{info, key, key_is, schema, tab, who}
 use Rattle.core_met.proofs.Flush.{base, flusher, t7, tables, table_is, none_split, list}
 use Rattle.core_met.proofs.Starts.{has_dot, none_unreferenced, no_new_files}
@@ -126,8 +124,8 @@ data_allowed ttl = record { table = codes "t"; take = held ttl; captured = captu
 shot_is : (captures : RegionKey → Option RegionFiles) (p : Plain) → p.tables ≡ tables → captures key ≡ Some list → shot ≡ snapshot_of captures (codes "t") p
 shot_is captures p t e = sym (
     ap (λ (m : Names PlainTable). let o = get m (codes "t") in record { schema = record { table = codes "t"; families = families_of_table o }; regions = filter_map (copied captures) (open_of (regions_in o)) }) t
-        ∙ ap (λ (o : Option PlainTable). record { schema = record { table = codes "t"; families = families_of_table o }; regions = filter_map (copied captures) (open_of (regions_in o)) }) table_is
-        ∙ ap (λ (o : Option RegionFiles). record { schema = schema; regions = cons_option (option_map (λ (v : RegionFiles). record { info = info; seq = v.seq; entries = v.entries }) o) [] }) (ap captures key_is ∙ e))
+    ∙ ap (λ (o : Option PlainTable). record { schema = record { table = codes "t"; families = families_of_table o }; regions = filter_map (copied captures) (open_of (regions_in o)) }) table_is
+    ∙ ap (λ (o : Option RegionFiles). record { schema = schema; regions = cons_option (option_map (λ (v : RegionFiles). record { info = info; seq = v.seq; entries = v.entries }) o) [] }) (ap captures key_is ∙ e))
 
 pub complete_allowed : (ttl : ℕ) → Allows complete (u4 ttl)
 complete_allowed ttl = record {

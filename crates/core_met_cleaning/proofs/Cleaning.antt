@@ -1,7 +1,7 @@
 -- A pass that deletes the archived file.
-use Rattle.std.proofs.Common.{◌≡◌, ℕ, ◌+◌, true, false, cond, List, [], ◌∷◌, Option, Some, None, refl, sym, ap, ◌∙◌, arith}
-use Rattle.std.specs.Prelude.{codes, map}
-use Rattle.std.specs.FinMap.{empty, entries, insert, keys, put, entries-insert}
+use Rattle.std.proofs.Common.{◌≡◌, ℕ, ◌+◌, true, false, cond, List, [], ◌∷◌, Some, None, refl, ap, arith}
+use Rattle.std.specs.Prelude.{map}
+use Rattle.std.specs.FinMap.{empty, keys}
 use Rattle.hb_layout.specs.declared.base.Base.{Base}
 use Rattle.ns_tree.specs.declared.file.FileState.{FileState}
 use Rattle.plain_model.specs.declared.hold.Hold.TheVariants as holds

@@ -1,5 +1,5 @@
 -- A major compaction of the table, and the archiving of the file that it leaves.
-use Rattle.std.proofs.Common.{◌≡◌, ℕ, ◌==◌, Bool, true, false, cond, List, [], ◌∷◌, Option, Some, None, refl, sym, ap, ◌∙◌, subst, inl, inr, arith}
+use Rattle.std.proofs.Common.{◌≡◌, ℕ, ◌==◌, true, false, cond, List, [], ◌∷◌, Option, None, refl, sym, ap, ◌∙◌, subst, inl, inr, arith}
 use Rattle.std.specs.Prelude.{codes, map, not, unwrap_or, is_some, Ok}
 use Rattle.std.specs.FinMap.{get}
 use Rattle.hex.specs.Hex.{encode_with}
@@ -28,18 +28,18 @@ use Rattle.core_model.specs.declared.step.Started.TheVariants as started
 use Rattle.core_model.specs.declared.step.Step.{Step}
 use Rattle.core_model.specs.declared.step.Step.TheVariants as step
 use Rattle.cell_sight.specs.Member.{Member}
-use Rattle.core_model.specs.Actors.{IsRegion, HasHold, IsFree}
+use Rattle.core_model.specs.Actors.{HasHold, IsFree}
 use Rattle.core_model.specs.Allows.{Allows}
 use Rattle.core_model.specs.Disk.{live_of}
-use Rattle.core_model.specs.Entries.{IsBase, base_of, cells_in, no_list, region_list}
+use Rattle.core_model.specs.Entries.{IsBase, base_of, no_list, region_list}
 use Rattle.core_model.specs.FileGuards.{next_name}
 use Rattle.core_model.specs.ListGuards.{Merge, IsOutput}
 use Rattle.core_model.specs.Recipes.{merged}
 use Rattle.core_model.specs.Replay.{after}
-use Rattle.core_model.specs.State.{Parts, Pinned, no_plan}
-use Rattle.core_sound.proofs.Tests.{cond_cases, same_key-true}
+use Rattle.core_model.specs.State.{Parts, no_plan}
+use Rattle.core_sound.proofs.Tests.{cond_cases}
 use Rattle.core_met.specs.Met.{cell}
-use Rattle.core_met.proofs.Begin.{info, key, key_is, schema, who}
+use Rattle.core_met.proofs.Begin.{key, key_is, who}
 use Rattle.core_met.proofs.Choices.{chosen, chosen_each}
 use Rattle.core_met.proofs.Flush.{base, tables, table_is, none_split, in_set, list}
 use Rattle.core_met.proofs.Lawful.{base_lawful}

@@ -8,7 +8,7 @@ use Rattle.core_met.proofs.Flush.{base, in_set, t7}
 use Rattle.core_met.proofs.Journal.{entry, Leads, with_table, from_bare}
 use Rattle.core_met.proofs.Shot.{flushed}
 use Rattle.core_met_cleaning.specs.Cleaned.{HasCleaned, DeletionIsMet}
-use Rattle.core_met_cleaning.proofs.Cleaning.{cleaner, clean, delete, cleaned, d3, clean_allowed, delete_allowed}
+use Rattle.core_met_cleaning.proofs.Cleaning.{cleaner, clean, delete, cleaned, clean_allowed, delete_allowed}
 use Rattle.core_met_cleaning.proofs.Compacting.{output, compact, pin, write, place, write_list, commit, unpin, stamp, archive, compacted, c10, compact_allowed, pin_allowed, write_allowed, place_allowed, write_list_allowed, commit_allowed, unpin_allowed, stamp_allowed, archive_allowed}
 use Rattle.core_met_cleaning.proofs.Lawful.{output_lawful}
 

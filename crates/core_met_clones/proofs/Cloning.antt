@@ -1,15 +1,13 @@
 -- A clone of the snapshot to another table.
-use Rattle.std.proofs.Common.{◌≡◌, ℕ, ◌++◌, Bool, true, false, cond, List, [], ◌∷◌, Option, Some, None, refl, sym, ap, ◌∙◌, subst, inl, inr, arith}
+use Rattle.std.proofs.Common.{◌≡◌, ℕ, Bool, true, false, cond, List, [], ◌∷◌, Option, Some, None, refl, sym, ap, ◌∙◌, subst, inl, inr, arith}
 use Rattle.std.specs.Prelude.{codes, not, find, option_map, unwrap_or, is_some, zip}
 use Rattle.std.specs.FinMap.{get, empty, insert, get-empty}
 use Rattle.hex.specs.Hex.{encode_with}
 use Rattle.md5.specs.Md5.{md5, digest_bytes, hash_after, compress, rounds, block_words}
 use Rattle.std.specs.Fmt.{digits}
 use Rattle.hb_cell.specs.Order.{bytes_cmp, same_bytes}
-use Rattle.hb_layout.specs.declared.base.Base.{Base}
 use Rattle.hb_records.specs.declared.region_info.RegionInfo.{RegionInfo}
 use Rattle.hb_records.specs.declared.table_schema.TableSchema.{TableSchema}
-use Rattle.ns_tree.specs.declared.file.FileState.{FileState}
 use Rattle.region_set.specs.declared.region_set.RegionSet.{RegionSet}
 use Rattle.region_set.specs.declared.set_state.SetState.TheVariants as states
 use Rattle.plain_model.specs.declared.event.Event.TheVariants as event
@@ -37,7 +35,6 @@ use Rattle.core_model.specs.declared.targets.Why.TheVariants as why
 use Rattle.core_model.specs.declared.step.Started.TheVariants as started
 use Rattle.core_model.specs.declared.step.Step.{Step}
 use Rattle.core_model.specs.declared.step.Step.TheVariants as step
-use Rattle.cell_sight.specs.Member.{Member}
 use Rattle.core_model.specs.Actors.{IsRegion}
 use Rattle.core_model.specs.Allows.{Allows}
 use Rattle.core_model.specs.Disk.{live_of}
@@ -48,7 +45,7 @@ use Rattle.core_model.specs.Keys.{home, same_base}
 use Rattle.core_model.specs.ListGuards.{copies_of, number_of_copies}
 use Rattle.core_model.specs.Plans.{regions_in, copied_regions, copies_in, planned_for}
 use Rattle.core_model.specs.Replay.{after}
-use Rattle.core_model.specs.StartGuards.{AreFiles, IsTaken, StandsBelow, regions_for, by_new, by_drawn, by_set, by_directory, live_file, archived_file, list_file, back_file}
+use Rattle.core_model.specs.StartGuards.{AreFiles, IsTaken, StandsBelow, by_new, by_drawn, by_set, by_directory, live_file, archived_file, list_file, back_file}
 use Rattle.core_model.specs.State.{Parts}
 use Rattle.region_set.specs.RegionSet.{IsRegionSet}
 use Rattle.core_sound.proofs.Tests.{cond_cases, same_base-true}

@@ -1,14 +1,12 @@
 -- The first table is disabled and dropped, and its file archived.
-use Rattle.std.proofs.Common.{◌≡◌, ℕ, ◌==◌, Bool, true, false, cond, List, [], ◌∷◌, Option, Some, None, refl, sym, ap, ◌∙◌, subst, inl, inr, arith}
+use Rattle.std.proofs.Common.{◌≡◌, ℕ, ◌==◌, false, cond, List, [], ◌∷◌, Option, Some, None, refl, sym, ap, ◌∙◌, subst, inl, inr, arith}
 use Rattle.std.specs.Prelude.{codes, map, not, unwrap_or, is_some}
 use Rattle.std.specs.List.{flat_map, AllByRecursion}
 use Rattle.std.specs.FinMap.{get, empty, entries, insert, remove, put, entries-insert}
 use Rattle.std.specs.Cmp.Lexicographic.{nat_list_cmp_total}
 use Rattle.hex.specs.Hex.{encode_with}
-use Rattle.hb_cell.specs.Order.{bytes_cmp, same_bytes}
+use Rattle.hb_cell.specs.Order.{bytes_cmp}
 use Rattle.hb_layout.specs.declared.base.Base.{Base}
-use Rattle.hb_records.specs.declared.region_info.RegionInfo.{RegionInfo}
-use Rattle.hb_records.specs.declared.table_schema.TableSchema.{TableSchema}
 use Rattle.ns_tree.specs.declared.file.FileState.{FileState}
 use Rattle.region_set.specs.declared.region_set.RegionSet.{RegionSet}
 use Rattle.region_set.specs.declared.set_state.SetState.TheVariants as states
@@ -24,7 +22,6 @@ use Rattle.plain_model.specs.Keys.{key_of, same_key}
 use Rattle.plain_model.specs.Names.{Names, change_found}
 use Rattle.plain_model.specs.Replies.{first, when, no_files}
 use Rattle.plain_model.specs.Rows.{open_of}
-use Rattle.core_model.specs.declared.entry.Entry.{Entry}
 use Rattle.core_model.specs.declared.entry.Entry.TheVariants.{Own, Link}
 use Rattle.core_model.specs.declared.recipe.Recipe.TheVariants as recipes
 use Rattle.core_model.specs.declared.region_files.RegionFiles.{RegionFiles}
@@ -32,7 +29,7 @@ use Rattle.core_model.specs.declared.step.Started.TheVariants as started
 use Rattle.core_model.specs.declared.step.Step.{Step}
 use Rattle.core_model.specs.declared.step.Step.TheVariants as step
 use Rattle.cell_sight.specs.Member.{Member}
-use Rattle.core_model.specs.Actors.{IsRegion, IsPinned, IsFree, OwnListed}
+use Rattle.core_model.specs.Actors.{IsRegion, IsFree}
 use Rattle.core_model.specs.Allows.{Allows}
 use Rattle.core_model.specs.Disk.{live_of}
 use Rattle.core_model.specs.Entries.{file_of, no_list}
@@ -41,7 +38,7 @@ use Rattle.core_model.specs.FileGuards.{next_name}
 use Rattle.core_model.specs.Keys.{same_base}
 use Rattle.core_model.specs.Replay.{after}
 use Rattle.core_model.specs.StartGuards.{split_keys}
-use Rattle.core_model.specs.State.{Parts, Pinned, no_plan}
+use Rattle.core_model.specs.State.{Parts, no_plan}
 use Rattle.region_set.specs.RegionSet.{IsRegionSet}
 use Rattle.core_sound.proofs.Tests.{cond_cases, same_base-true, same_key-true}
 use Rattle.core_sound.proofs.TablesKept.{put_this, put_other, taken_at, taken_other}
@@ -174,8 +171,8 @@ plain_names : (b : Base) (f : FileState) → cond (same_base b (file_of key2 (Li
 plain_names b f e = cond_cases (same_base b (file_of key2 (Link base))) (Some empty_file) (cond (same_base b base) (Some empty_file) None) (Some f) e
     (λ d i. ap (λ (x : Base). has_dot x.name) (same_base-true b (file_of key2 (Link base)) d))
     (λ d i. cond_cases (same_base b base) (Some empty_file) None (Some f) i
-        (λ d i. ap (λ (x : Base). has_dot x.name) (same_base-true b base d))
-        (λ d i. absurd (cc)))
+    (λ d i. ap (λ (x : Base). has_dot x.name) (same_base-true b base d))
+    (λ d i. absurd (cc)))
 
 abbrev Tables : Type 0
 Tables = List (List ℕ × PlainTable)
@@ -276,10 +273,10 @@ not_listed : {P : Type 0} (r : RegionKey) (l : RegionFiles) → cond (same_key r
 not_listed r l e i m = cond_cases (same_key r key2) list2 (cond (same_key r (key_of info2)) no_list (cond (same_key r key) list no_list)) l e
     (λ d k. (elim (subst (λ (x : RegionFiles). Member (Own base) x.entries) (sym k) m) [ inl q ↦ absurd (cc) | inr q ↦ absurd q ]))
     (λ d k. cond_cases (same_key r (key_of info2)) no_list (cond (same_key r key) list no_list) l k
-        (λ d k. absurd (subst (λ (x : RegionFiles). Member (Own base) x.entries) (sym k) m))
-        (λ d k. cond_cases (same_key r key) list no_list l k
-            (λ d k. not_first (subst (IsRegion tables4) (same_key-true r key d) i))
-            (λ d k. absurd (subst (λ (x : RegionFiles). Member (Own base) x.entries) (sym k) m))))
+    (λ d k. absurd (subst (λ (x : RegionFiles). Member (Own base) x.entries) (sym k) m))
+    (λ d k. cond_cases (same_key r key) list no_list l k
+    (λ d k. not_first (subst (IsRegion tables4) (same_key-true r key d) i))
+    (λ d k. absurd (subst (λ (x : RegionFiles). Member (Own base) x.entries) (sym k) m))))
 
 none_pinned : (ttl a : ℕ) → (x4 ttl).pins a ≡ []
 none_pinned ttl a = chosen (a == 4) [] _ (chosen (a == 3) [] _ (chosen (a == 3) [] _ (chosen (a == 2) [] _ (chosen (a == 1) [] _ (chosen (a == 1) [] _ (chosen (a == 0) [] [] refl))))))

@@ -1,11 +1,10 @@
 -- The journal is allowed, and leads to a list with both files.
 use Rattle.std.proofs.Common.{ℕ, List, [], ◌∷◌, refl, sym, subst, inl, arith}
 use Rattle.core_model.specs.declared.journal.JournalEntry.{JournalEntry}
-use Rattle.core_model.specs.Opened.{opened}
 use Rattle.core_model.specs.Replay.{replay}
 use Rattle.core_met.proofs.Begin.{key, made}
 use Rattle.core_met.proofs.Journal.{entry, Leads}
-use Rattle.core_met_loads.specs.Loaded.{waiting_opening, HasLoaded, LoadIsMet}
+use Rattle.core_met_loads.specs.Loaded.{HasLoaded, LoadIsMet}
 use Rattle.core_met_loads.proofs.Loading.{first_base, second_base, load, place_first, place_second, write_list, commit, loaded, load_allowed, place_first_allowed, place_second_allowed, write_list_allowed, commit_allowed}
 use Rattle.core_met_loads.proofs.Tabled.{create, write_set, commit_set, set_lawful, in_set, b0, m4, table_made, create_allowed, write_set_allowed, commit_set_allowed}
 use Rattle.core_met_loads.proofs.Waiting.{waiting, waiting_is, begins_sound}

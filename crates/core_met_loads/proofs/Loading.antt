@@ -1,5 +1,5 @@
 -- The load of both files.
-use Rattle.std.proofs.Common.{◌≡◌, ℕ, ◌&&◌, Bool, true, false, cond, List, [], ◌∷◌, Option, Some, None, refl, sym, ap, ◌∙◌, subst, inl, inr, arith}
+use Rattle.std.proofs.Common.{◌≡◌, ℕ, ◌&&◌, true, false, cond, List, [], ◌∷◌, Option, Some, None, refl, sym, ap, subst, inl, inr, arith}
 use Rattle.std.specs.Prelude.{codes, not, unwrap_or, is_some}
 use Rattle.std.specs.Fmt.{digits}
 use Rattle.hex.specs.Hex.{encode_with}
@@ -39,7 +39,7 @@ use Rattle.core_sound.proofs.Tests.{cond_cases, both_left, both_right, same_byte
 use Rattle.core_met.proofs.Begin.{info, key, key_is, who}
 use Rattle.core_met.proofs.Lawful.{table_lawful, region_lawful, family_lawful}
 use Rattle.core_met.proofs.Starts.{none_unreferenced, no_new_files}
-use Rattle.core_met_loads.specs.Loaded.{cell_of, waits_at, empty_file}
+use Rattle.core_met_loads.specs.Loaded.{cell_of, empty_file}
 use Rattle.core_met_loads.proofs.Tabled.{tab, tables, table_is, none_split, in_set, b0}
 use Rattle.core_met_loads.proofs.Waiting.{second_family}
 
@@ -138,8 +138,8 @@ listed : (ttl : ℕ) (family name : List ℕ) (f : FileState) → (b0 ttl).disk 
 listed ttl family name f e = cond_cases (same_bytes family (codes "g") && same_bytes name (codes "x")) (Some empty_file) (cond (same_bytes family (codes "f") && same_bytes name (codes "x")) (Some empty_file) None) (Some f) e
     (λ d i. inr (inl (stands_as (family, name) (codes "g", codes "x") d)))
     (λ d i. cond_cases (same_bytes family (codes "f") && same_bytes name (codes "x")) (Some empty_file) None (Some f) i
-        (λ d i. inl (stands_as (family, name) (codes "f", codes "x") d))
-        (λ d i. absurd (cc)))
+    (λ d i. inl (stands_as (family, name) (codes "f", codes "x") d))
+    (λ d i. absurd (cc)))
 
 waits : (ttl : ℕ) (x : List ℕ × List ℕ) → Member x files → (f : FileState) × ((b0 ttl).disk (Staged (codes "d") x.0 x.1) ≡ Some f)
 waits ttl x (inl e) = (empty_file, ap (λ (y : List ℕ × List ℕ). (b0 ttl).disk (Staged (codes "d") y.0 y.1)) (sym e))

@@ -1,5 +1,5 @@
 -- A table of two families and one region in that store.
-use Rattle.std.proofs.Common.{◌≡◌, ℕ, Bool, true, false, cond, List, [], ◌∷◌, Option, Some, None, refl, sym, ap, ◌∙◌, inl, arith}
+use Rattle.std.proofs.Common.{◌≡◌, ℕ, true, false, List, [], ◌∷◌, Option, Some, None, refl, sym, ap, ◌∙◌, inl, arith}
 use Rattle.std.specs.Prelude.{codes, unwrap_or, is_some}
 use Rattle.std.specs.List.{flat_map}
 use Rattle.std.specs.FinMap.{get, empty, entries, insert, put, get-empty, entries-insert}

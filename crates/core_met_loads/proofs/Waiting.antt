@@ -1,5 +1,5 @@
 -- The state of a store that has the two waiting files alone, and that it is sound.
-use Rattle.std.proofs.Common.{◌≡◌, ℕ, Bool, true, false, cond, List, [], ◌∷◌, Option, Some, None, refl, sym, ap, ◌∙◌, subst, inl, inr, arith}
+use Rattle.std.proofs.Common.{◌≡◌, ℕ, true, false, cond, List, [], ◌∷◌, Some, None, refl, sym, ap, ◌∙◌, subst, inl, inr, arith}
 use Rattle.std.specs.Prelude.{codes, is_some}
 use Rattle.std.specs.FinMap.{empty, get, insert, get-empty}
 use Rattle.std.specs.Cmp.Lexicographic.{slice_cmp}
@@ -17,15 +17,15 @@ use Rattle.ns_tree.specs.Tree.{Tree}
 use Rattle.ns_tree.proofs.Trees.{IsTree-empty}
 use Rattle.plain_model.specs.declared.region_key.RegionKey.{RegionKey}
 use Rattle.core_model.specs.Actors.{IsRegion, Counts}
-use Rattle.core_model.specs.Disk.{Disk, Create, Nothing, disk_of, disk_after, is_regular, live_of, archived_of, at_place, or_else}
-use Rattle.core_model.specs.Entries.{Made, no_list, file_of}
+use Rattle.core_model.specs.Disk.{Disk, Create, disk_of, disk_after, is_regular, live_of, archived_of, at_place, or_else}
+use Rattle.core_model.specs.Entries.{no_list}
 use Rattle.core_model.specs.FileChanges.{size_in}
 use Rattle.core_model.specs.Named.{Named, listed, in_snapshot, captured, planned, pinned, linked}
 use Rattle.core_model.specs.Opened.{opened, found_cells, read_base}
-use Rattle.core_model.specs.Site.{Site, Live, Archived, Staged, site_text, spot_of, pointer_at, is_store_name}
+use Rattle.core_model.specs.Site.{Site, Live, Archived, Staged, site_text, pointer_at, is_store_name}
 use Rattle.core_model.specs.Sound.{IsSound}
 use Rattle.core_model.specs.State.{Parts, no_plan}
-use Rattle.core_sites.specs.Shows.{IsSpelledSite, Shows}
+use Rattle.core_sites.specs.Shows.{Shows}
 use Rattle.core_sites.proofs.Accepted.{accepted}
 use Rattle.core_sites.proofs.Shown.{shows_by}
 use Rattle.core_met.proofs.Begin.{begin}

@@ -8,7 +8,7 @@ use Rattle.core_met.proofs.Journal.{entry, Leads, with_table, from_bare}
 use Rattle.core_met.proofs.Shot.{flushed}
 use Rattle.core_met_splits.specs.Halved.{HasSplit, SplitIsMet}
 use Rattle.core_met_splits.proofs.Lawful.{low_lawful, high_lawful, set2_lawful}
-use Rattle.core_met_splits.proofs.Splitting.{low, high, low_key, high_key, low_is, high_is, tab2, split, low_back, halve_low, high_back, halve_high, write_low, build_low, write_high, build_high, write_set, commit, halved, h, h1, h11, k0, k1, split_begun, split_made, split_allowed, low_back_allowed, halve_low_allowed, high_back_allowed, halve_high_allowed, write_low_allowed, build_low_allowed, write_high_allowed, build_high_allowed, write_set_allowed, commit_allowed, table_there}
+use Rattle.core_met_splits.proofs.Splitting.{low, high, low_key, high_key, low_is, high_is, tab2, split, low_back, halve_low, high_back, halve_high, write_low, build_low, write_high, build_high, write_set, commit, halved, h, h1, h11, k0, split_begun, split_made, split_allowed, low_back_allowed, halve_low_allowed, high_back_allowed, halve_high_allowed, write_low_allowed, build_low_allowed, write_high_allowed, build_high_allowed, write_set_allowed, commit_allowed, table_there}
 
 -- the entries that build the two regions, before others
 abbrev with_halves : List JournalEntry → List JournalEntry

@@ -39,8 +39,10 @@ set2_lawful = record {
   families = (record { name = family_lawful; versions = ((omega arith), (omega arith)) }, tt);
   regions = (
     record { of_table = refl; id = (omega arith); start = record { small = λ i. (omega arith); limit = (omega arith) }; end = tt; end_some = tt },
-    ((record { of_table = refl; id = (omega arith); start = record { small = λ i. (omega arith); limit = (omega arith) }; end = row_lawful; end_some = (omega arith) }, λ e. absurd (cc)),
-    ((record { of_table = refl; id = (omega arith); start = row_lawful; end = tt; end_some = tt }, λ e. absurd (cc)), tt)),
+    (
+      (record { of_table = refl; id = (omega arith); start = record { small = λ i. (omega arith); limit = (omega arith) }; end = row_lawful; end_some = (omega arith) }, λ e. absurd (cc)),
+      ((record { of_table = refl; id = (omega arith); start = row_lawful; end = tt; end_some = tt }, λ e. absurd (cc)), tt),
+    ),
   );
   no_families = λ e. absurd (cc);
   no_regions = λ e. absurd (cc);

@@ -7,13 +7,11 @@ use Rattle.hex.specs.Hex.{encode_with}
 use Rattle.md5.specs.Md5.{md5, digest_bytes, hash_after, compress, rounds, block_words}
 use Rattle.std.specs.Fmt.{digits}
 use Rattle.hb_cell.specs.Order.{same_bytes}
-use Rattle.hb_layout.specs.declared.base.Base.{Base}
 use Rattle.hb_records.specs.declared.region_info.RegionInfo.{RegionInfo}
 use Rattle.ns_tree.specs.declared.file.FileState.{FileState}
 use Rattle.region_set.specs.declared.region_set.RegionSet.{RegionSet}
 use Rattle.region_set.specs.declared.set_state.SetState.TheVariants as states
 use Rattle.plain_model.specs.declared.event.Event.TheVariants as event
-use Rattle.plain_model.specs.declared.hold.Hold.{Hold}
 use Rattle.plain_model.specs.declared.hold.Hold.TheVariants as holds
 use Rattle.plain_model.specs.declared.job.Job.{Job}
 use Rattle.plain_model.specs.declared.job.Job.TheVariants as jobs
@@ -30,7 +28,7 @@ use Rattle.plain_model.specs.Replies.{first, when, no_files, is_start_of}
 use Rattle.plain_model.specs.Rows.{region_of}
 use Rattle.plain_model.specs.TableEvents.{with_region, with_split}
 use Rattle.core_model.specs.declared.entry.Entry.{Entry}
-use Rattle.core_model.specs.declared.entry.Entry.TheVariants.{Own, Half}
+use Rattle.core_model.specs.declared.entry.Entry.TheVariants.{Half}
 use Rattle.core_model.specs.declared.plan.Plan.{Plan}
 use Rattle.core_model.specs.declared.recipe.Recipe.TheVariants as recipes
 use Rattle.core_model.specs.declared.region_files.RegionFiles.{RegionFiles}
@@ -46,15 +44,14 @@ use Rattle.core_model.specs.Entries.{IsKey, is_half, no_list, region_list}
 use Rattle.core_model.specs.FileChanges.{set_number}
 use Rattle.core_model.specs.FileGuards.{next_name}
 use Rattle.core_model.specs.Keys.{home, same_base}
-use Rattle.core_model.specs.ListGuards.{HasNumber}
 use Rattle.core_model.specs.Plans.{daughters, halves_in, planned_for, split_entries}
 use Rattle.core_model.specs.Replay.{after}
-use Rattle.core_model.specs.StartGuards.{AreFiles, HasHalf, IsTaken, StandsBelow, by_new, by_drawn, by_set, by_directory, live_file, archived_file, list_file, back_file}
+use Rattle.core_model.specs.StartGuards.{AreFiles, IsTaken, StandsBelow, by_new, by_drawn, by_set, by_directory, live_file, archived_file, list_file, back_file}
 use Rattle.core_model.specs.State.{Parts}
 use Rattle.region_set.specs.RegionSet.{IsRegionSet}
 use Rattle.core_sound.proofs.Tests.{cond_cases, both_left, same_base-true}
 use Rattle.core_sound.proofs.TablesKept.{put_this}
-use Rattle.core_met.proofs.Begin.{info, key, key_is, schema, set, tab, who, no_tables, not_two}
+use Rattle.core_met.proofs.Begin.{info, key, key_is, schema, set, tab, who, not_two}
 use Rattle.core_met.proofs.Flush.{base, tables, table_is, none_split, list}
 use Rattle.core_met.proofs.Lawful.{base_lawful}
 use Rattle.core_met.proofs.Shot.{u0, plain_name}
