@@ -259,10 +259,10 @@ clone_allowed ttl = record {
 }
 
 pub refer_back_allowed : (ttl : ℕ) → Allows refer_back (v1 ttl)
-refer_back_allowed ttl = record { live = refl; entry = Link base; planned = inl refl; reads = refl; refers = refl; new = refl }
+refer_back_allowed ttl = record { live = refl; built = record { info = info2; region = inl refl; key = key2_is }; entry = Link base; planned = inl refl; reads = refl; refers = refl; new = refl }
 
 pub link_allowed : (ttl : ℕ) → Allows link (v2 ttl)
-link_allowed ttl = record { live = refl; planned = inl refl; names = base_lawful; back = record { bytes = []; moment = 0 }; referred = refl; new = refl }
+link_allowed ttl = record { live = refl; built = record { info = info2; region = inl refl; key = key2_is }; planned = inl refl; names = base_lawful; back = record { bytes = []; moment = 0 }; referred = refl; new = refl }
 
 pub write_list_allowed : (ttl : ℕ) → Allows write_list (v3 ttl)
 write_list_allowed ttl = record { live = refl; new = sym fourth_name; gives = refl }

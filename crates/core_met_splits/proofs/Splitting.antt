@@ -343,16 +343,16 @@ split_allowed ttl = record {
 }
 
 pub low_back_allowed : (ttl : ℕ) → Allows low_back (h1 ttl)
-low_back_allowed ttl = record { live = refl; entry = low_half; planned = inl refl; reads = refl; refers = refl; new = refl }
+low_back_allowed ttl = record { live = refl; built = record { info = low; region = inl refl; key = low_is }; entry = low_half; planned = inl refl; reads = refl; refers = refl; new = refl }
 
 pub halve_low_allowed : (ttl : ℕ) → Allows halve_low (h2 ttl)
-halve_low_allowed ttl = record { refer = record { live = refl; planned = inl refl; names = (base_lawful, refl); back = empty_file; referred = refl; new = refl }; half = refl }
+halve_low_allowed ttl = record { refer = record { live = refl; built = record { info = low; region = inl refl; key = low_is }; planned = inl refl; names = (base_lawful, refl); back = empty_file; referred = refl; new = refl }; half = refl }
 
 pub high_back_allowed : (ttl : ℕ) → Allows high_back (h3 ttl)
-high_back_allowed ttl = record { live = refl; entry = high_half; planned = inr (inl refl); reads = refl; refers = refl; new = refl }
+high_back_allowed ttl = record { live = refl; built = record { info = high; region = inr (inl refl); key = high_is }; entry = high_half; planned = inr (inl refl); reads = refl; refers = refl; new = refl }
 
 pub halve_high_allowed : (ttl : ℕ) → Allows halve_high (h4 ttl)
-halve_high_allowed ttl = record { refer = record { live = refl; planned = inr (inl refl); names = (base_lawful, refl); back = empty_file; referred = refl; new = refl }; half = refl }
+halve_high_allowed ttl = record { refer = record { live = refl; built = record { info = high; region = inr (inl refl); key = high_is }; planned = inr (inl refl); names = (base_lawful, refl); back = empty_file; referred = refl; new = refl }; half = refl }
 
 pub write_low_allowed : (ttl : ℕ) → Allows write_low (h5 ttl)
 write_low_allowed ttl = record { live = refl; new = sym fourth_name; gives = refl }
