@@ -245,96 +245,71 @@ fn answers_each_turned_byte(rt: HostRuntime) -> Result<(), Fail> {
     Ok(())
 }
 
-/// What the trailer of the example's file tells in place of what is right, and the answer.
-const TRAILERS: [(Trailer, HFileError); 13] = [
+/// What the trailer of the example's file tells, with another number in one of its fields.
+fn told_with(field: u32, number: u64) -> Trailer {
+    match field {
+        1 => Trailer {
+            info_at: number,
+            ..TOLD
+        },
+        2 => Trailer {
+            load_at: number,
+            ..TOLD
+        },
+        5 => Trailer {
+            data_count: number,
+            ..TOLD
+        },
+        7 => Trailer {
+            entries: number,
+            ..TOLD
+        },
+        8 => Trailer {
+            levels: number,
+            ..TOLD
+        },
+        _ => Trailer {
+            compression: 1,
+            ..TOLD
+        },
+    }
+}
+
+/// A field of the trailer, the number that it has in place of the right one, and the fault.
+const TRAILERS: [(u32, u64, HFileError); 13] = [
     (
-        Trailer { entries: 2, ..TOLD },
+        7,
+        2,
         HFileError::Count {
             written: 2,
             found: 1,
         },
     ),
     (
-        Trailer {
-            entries: u64::MAX,
-            ..TOLD
-        },
+        7,
+        u64::MAX,
         HFileError::Count {
             written: u64::MAX,
             found: 1,
         },
     ),
-    (Trailer { levels: 0, ..TOLD }, HFileError::BadIndex(58)),
-    (Trailer { levels: 2, ..TOLD }, HFileError::BadIndex(58)),
-    (
-        Trailer {
-            levels: u64::MAX,
-            ..TOLD
-        },
-        HFileError::BadIndex(58),
-    ),
-    (
-        Trailer {
-            data_count: 0,
-            ..TOLD
-        },
-        HFileError::BadIndex(58),
-    ),
-    (
-        Trailer {
-            data_count: 2,
-            ..TOLD
-        },
-        HFileError::BadIndex(58),
-    ),
-    (
-        Trailer {
-            data_count: 1 << 32,
-            ..TOLD
-        },
-        HFileError::BadIndex(58),
-    ),
-    (
-        Trailer {
-            load_at: 57,
-            ..TOLD
-        },
-        HFileError::Magic(57),
-    ),
-    (
-        Trailer {
-            load_at: u64::MAX,
-            ..TOLD
-        },
-        HFileError::Magic(u64::MAX),
-    ),
-    (
-        Trailer {
-            info_at: 151,
-            ..TOLD
-        },
-        HFileError::BadInfo(151),
-    ),
-    (
-        Trailer {
-            info_at: u64::MAX,
-            ..TOLD
-        },
-        HFileError::BadInfo(u64::MAX),
-    ),
-    (
-        Trailer {
-            compression: 1,
-            ..TOLD
-        },
-        HFileError::Compressed(1),
-    ),
+    (8, 0, HFileError::BadIndex(58)),
+    (8, 2, HFileError::BadIndex(58)),
+    (8, u64::MAX, HFileError::BadIndex(58)),
+    (5, 0, HFileError::BadIndex(58)),
+    (5, 2, HFileError::BadIndex(58)),
+    (5, 1 << 32, HFileError::BadIndex(58)),
+    (2, 57, HFileError::Magic(57)),
+    (2, u64::MAX, HFileError::Magic(u64::MAX)),
+    (1, 151, HFileError::BadInfo(151)),
+    (1, u64::MAX, HFileError::BadInfo(u64::MAX)),
+    (12, 1, HFileError::Compressed(1)),
 ];
 
 #[test]
 fn refuses_trailers(rt: HostRuntime) -> Result<(), Fail> {
-    for (told, fault) in TRAILERS {
-        let bytes = file(rt.alloc(), &EXAMPLE, &told)?;
+    for (field, number, fault) in TRAILERS {
+        let bytes = file(rt.alloc(), &EXAMPLE, &told_with(field, number))?;
         assert!(rt;
             answer(rt.alloc(), bytes.as_slice()) == Err(fault),
             "{fault}"
