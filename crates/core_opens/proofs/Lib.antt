@@ -1,6 +1,6 @@
 mod Entered
 mod Beside
 mod Read
-mod Opens
+pub mod Opens
 mod Lives
 mod Faultless

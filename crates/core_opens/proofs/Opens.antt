@@ -53,17 +53,17 @@ told_opening epoch ttl tree found = record { epoch = epoch; ttl = ttl; tree = So
 
 -- ---- regions, lists and cells as they were found
 
-in_set : (tree : Tree) (found : Found) (v : IsValid tree) → IsFound (disk_of tree) found v.says → (r : RegionKey) (split : Bool) → InSet (tables_in found) r split → IsIn v.says.sets r split
-in_set tree found v f r split i = record { table = i.table; stands = sym (table_is (disk_of tree) found v.says r.table f) ∙ i.stands; info = i.info; listed = i.listed; key = i.key }
+in_set : (tree : Tree) (found : Found) (v : IsValid tree) → IsFound (disk_of tree) found v.complete.says → (r : RegionKey) (split : Bool) → InSet (tables_in found) r split → IsIn v.complete.says.sets r split
+in_set tree found v f r split i = record { table = i.table; stands = sym (table_is (disk_of tree) found v.complete.says r.table f) ∙ i.stands; info = i.info; listed = i.listed; key = i.key }
 
-in_reading : (tree : Tree) (found : Found) (v : IsValid tree) → IsFound (disk_of tree) found v.says → (r : RegionKey) → IsRegion (tables_in found) r → InReading v.says r
+in_reading : (tree : Tree) (found : Found) (v : IsValid tree) → IsFound (disk_of tree) found v.complete.says → (r : RegionKey) → IsRegion (tables_in found) r → InReading v.complete.says r
 in_reading tree found v f r (inl i) = inl (in_set tree found v f r false i)
 in_reading tree found v f r (inr i) = inr (in_set tree found v f r true i)
 
-list_read : (tree : Tree) (found : Found) (v : IsValid tree) → IsFound (disk_of tree) found v.says → (r : RegionKey) (e : Entry) → Member e (found_list found.lists r).entries → Member e (v.says.lists r).entries
+list_read : (tree : Tree) (found : Found) (v : IsValid tree) → IsFound (disk_of tree) found v.complete.says → (r : RegionKey) (e : Entry) → Member e (found_list found.lists r).entries → Member e (v.complete.says.lists r).entries
 list_read tree found v f r e m = subst (λ (l : RegionFiles). Member e l.entries) (f.lists r) m
 
-made_is : (tree : Tree) (found : Found) (v : IsValid tree) → IsFound (disk_of tree) found v.says → read_base found.cells ≡ v.says.made
+made_is : (tree : Tree) (found : Found) (v : IsValid tree) → IsFound (disk_of tree) found v.complete.says → read_base found.cells ≡ v.complete.says.made
 made_is tree found v f = λ i b. f.made b i
 
 -- ---- what is named
@@ -77,17 +77,17 @@ base_names r (entries.Half b false p row top) h = h.0
 abbrev IsNamedAt : Found → Disk → Base → Type 0
 IsNamedAt found d b = Named (tables_in found) (found_list found.lists) (from_entries found.snapshots) (λ a r. None) (λ a. no_plan) (λ a. []) (live_of d) b
 
-named_stand : (tree : Tree) (found : Found) (v : IsValid tree) → IsFound (disk_of tree) found v.says → (b : Base) → IsNamedAt found (disk_of tree) b → HasPlace (live_of (disk_of tree)) (archived_of (disk_of tree)) b
-named_stand tree found v f b (listed r e i m k) = v.reading.places b (by_list r e (in_reading tree found v f r i) (list_read tree found v f r e m) k)
-named_stand tree found v f b (in_snapshot name x e i m k) = v.reading.places b (by_snapshot name x e (sym (snapshot_is (disk_of tree) found v.says name f) ∙ i) m k)
+named_stand : (tree : Tree) (found : Found) (v : IsValid tree) → IsFound (disk_of tree) found v.complete.says → (b : Base) → IsNamedAt found (disk_of tree) b → HasPlace (live_of (disk_of tree)) (archived_of (disk_of tree)) b
+named_stand tree found v f b (listed r e i m k) = v.complete.reading.places b (by_list r e (in_reading tree found v f r i) (list_read tree found v f r e m) k)
+named_stand tree found v f b (in_snapshot name x e i m k) = v.complete.reading.places b (by_snapshot name x e (sym (snapshot_is (disk_of tree) found v.complete.says name f) ∙ i) m k)
 named_stand tree found v f b (captured a r l e i m k) = let z : None ≡ Some l = i in absurd (cc)
 named_stand tree found v f b (planned a x m k) = absurd m
 named_stand tree found v f b (pinned a e i k) = absurd i.stands
-named_stand tree found v f b (linked r e g y n o i k) = subst (HasPlace (live_of (disk_of tree)) (archived_of (disk_of tree))) k (v.pointed.at r e g y n o i)
+named_stand tree found v f b (linked r e g y n o i k) = subst (HasPlace (live_of (disk_of tree)) (archived_of (disk_of tree))) k (v.complete.pointed.at r e g y n o i)
 
-named_lawful : (tree : Tree) (found : Found) (v : IsValid tree) → IsFound (disk_of tree) found v.says → (b : Base) → IsNamedAt found (disk_of tree) b → IsBase b
-named_lawful tree found v f b (listed r e i m k) = v.reading.bases b (by_list r e (in_reading tree found v f r i) (list_read tree found v f r e m) k)
-named_lawful tree found v f b (in_snapshot name x e i m k) = v.reading.bases b (by_snapshot name x e (sym (snapshot_is (disk_of tree) found v.says name f) ∙ i) m k)
+named_lawful : (tree : Tree) (found : Found) (v : IsValid tree) → IsFound (disk_of tree) found v.complete.says → (b : Base) → IsNamedAt found (disk_of tree) b → IsBase b
+named_lawful tree found v f b (listed r e i m k) = v.complete.reading.bases b (by_list r e (in_reading tree found v f r i) (list_read tree found v f r e m) k)
+named_lawful tree found v f b (in_snapshot name x e i m k) = v.complete.reading.bases b (by_snapshot name x e (sym (snapshot_is (disk_of tree) found v.complete.says name f) ∙ i) m k)
 named_lawful tree found v f b (captured a r l e i m k) = let z : None ≡ Some l = i in absurd (cc)
 named_lawful tree found v f b (planned a x m k) = absurd m
 named_lawful tree found v f b (pinned a e i k) = absurd i.stands
@@ -96,7 +96,7 @@ named_lawful tree found v f b (linked r e g y n o i k) = subst IsBase k (base_na
 -- what stands in the archive is a base in its grammar
 archived_base : (tree : Tree) → IsValid tree → (b : Base) (f : FileState) → disk_of tree (Archived b) ≡ Some f → IsBase b
 archived_base tree v b f e = cond_cases (is_regular (Archived b)) (get tree (site_text (Archived b))) None (Some f) e
-    (λ d i. let w = v.rows (site_text (Archived b)) (ap is_some i) in
+    (λ d i. let w = v.complete.rows (site_text (Archived b)) (ap is_some i) in
     let z : w.site ≡ Archived b = regular_apart w.site (Archived b) (spelled_regular w.site w.lawful.0) d w.text in
     let l : IsLawful (spot_of (Archived b)) = subst (λ (q : Site). IsLawful (spot_of q)) z w.lawful in record { names = l.0.0; file = l.0.1 })
     (λ d i. absurd (cc))
@@ -106,7 +106,7 @@ archived_base tree v b f e = cond_cases (is_regular (Archived b)) (get tree (sit
 no_hold : {P : Type 0} {A : Type 0} {l : A} → None ≡ Some l → P
 no_hold e = absurd (cc)
 
-opened_sound : (epoch ttl : ℕ) (tree : Tree) (found : Found) (v : IsValid tree) → IsFound (disk_of tree) found v.says → ((name : List ℕ) → disk_of tree (Tmp name) ≡ None) → HasNewEpoch (disk_of tree) epoch → IsSound (opened (told_opening epoch ttl tree found))
+opened_sound : (epoch ttl : ℕ) (tree : Tree) (found : Found) (v : IsValid tree) → IsFound (disk_of tree) found v.complete.says → ((name : List ℕ) → disk_of tree (Tmp name) ≡ None) → HasNewEpoch (disk_of tree) epoch → IsSound (opened (told_opening epoch ttl tree found))
 opened_sound epoch ttl tree found v f swept new = record {
   names = record {
     tmp = λ name g e. let z : None ≡ Some g = sym (swept name) ∙ e in absurd (cc);
@@ -120,15 +120,15 @@ opened_sound epoch ttl tree found v f swept new = record {
     from_live = λ name g e. let z : None ≡ Some g = sym (swept name) ∙ e in absurd (cc);
     from_archived = λ name g e. let z : None ≡ Some g = sym (swept name) ∙ e in absurd (cc);
   };
-  one_place = v.one_place;
+  one_place = v.complete.one_place;
   archived_lawful = record { at = archived_base tree v };
   places = record { at = named_stand tree found v f };
   lawful = record { at = named_lawful tree found v f };
-  back_refs = v.back_refs;
-  listed = record { at = λ r e c m. elim c [ inl i ↦ v.reading.stand r e (in_reading tree found v f r i) (list_read tree found v f r e m) | inr i ↦ absurd (i.region) ] };
+  back_refs = v.complete.back_refs;
+  listed = record { at = λ r e c m. elim c [ inl i ↦ v.complete.reading.stand r e (in_reading tree found v f r i) (list_read tree found v f r e m) | inr i ↦ absurd (i.region) ] };
   pinned = record { at = λ a p e m i. absurd m };
   waiting = record { at = λ b a e. absurd (cc) };
-  own_regions = record { at = λ t table i split e m. own_table (sets_of (disk_of tree) t) t (v.says.sets t) table i split (v.reading.sets t) (sym (table_is (disk_of tree) found v.says t f) ∙ e) m };
+  own_regions = record { at = λ t table i split e m. own_table (sets_of (disk_of tree) t) t (v.complete.says.sets t) table i split (v.complete.reading.sets t) (sym (table_is (disk_of tree) found v.complete.says t f) ∙ e) m };
   alike = record { at = λ name. alike_there (read_base found.cells) _ _ (copy_is (read_base found.cells) found name) };
   numbered = record { below = λ l m. absurd m; differ = λ l k m. absurd m };
   apart = record { at = λ l m h k i. absurd i };
@@ -152,45 +152,45 @@ opened_sound epoch ttl tree found v f swept new = record {
     alike_there made None (Some y) c = absurd c
     alike_there made (Some x) None c = absurd c
 
-opened_filed : (epoch ttl : ℕ) (tree : Tree) (found : Found) (v : IsValid tree) → IsFound (disk_of tree) found v.says → IsFiled (opened (told_opening epoch ttl tree found))
+opened_filed : (epoch ttl : ℕ) (tree : Tree) (found : Found) (v : IsValid tree) → IsFound (disk_of tree) found v.complete.says → IsFiled (opened (told_opening epoch ttl tree found))
 opened_filed epoch ttl tree found v f = record {
   lists = record {
     at = λ r c. elim c [
-      | inl i ↦ subst (λ (l : RegionFiles). IsAbove (lists_of (disk_of tree) r) l.number) (sym (f.lists r)) (v.reading.lists r (in_reading tree found v f r i)).above
+      | inl i ↦ subst (λ (l : RegionFiles). IsAbove (lists_of (disk_of tree) r) l.number) (sym (f.lists r)) (v.complete.reading.lists r (in_reading tree found v f r i)).above
       | inr i ↦ absurd (i.region)
     ];
   };
-  sets = record { at = λ t. subst (λ o. IsAbove (sets_of (disk_of tree) t) (set_number o)) (sym (set_is (disk_of tree) found v.says t f)) (v.reading.sets t).above };
+  sets = record { at = λ t. subst (λ o. IsAbove (sets_of (disk_of tree) t) (set_number o)) (sym (set_is (disk_of tree) found v.complete.says t f)) (v.complete.reading.sets t).above };
   snapshots = record {
-    missing = λ name e. v.reading.missing name (sym (snapshot_is (disk_of tree) found v.says name f) ∙ e);
-    stored = λ name x e. let w = v.reading.snapshots name x (sym (snapshot_is (disk_of tree) found v.says name f) ∙ e) in ((w.info, w.info_stands), (w.manifest, w.manifest_stands));
+    missing = λ name e. v.complete.reading.missing name (sym (snapshot_is (disk_of tree) found v.complete.says name f) ∙ e);
+    stored = λ name x e. let w = v.complete.reading.snapshots name x (sym (snapshot_is (disk_of tree) found v.complete.says name f) ∙ e) in ((w.info, w.info_stands), (w.manifest, w.manifest_stands));
   };
 }
 
-opened_written : (epoch ttl : ℕ) (tree : Tree) (found : Found) (v : IsValid tree) → IsFound (disk_of tree) found v.says → IsWritten (opened (told_opening epoch ttl tree found))
+opened_written : (epoch ttl : ℕ) (tree : Tree) (found : Found) (v : IsValid tree) → IsFound (disk_of tree) found v.complete.says → IsWritten (opened (told_opening epoch ttl tree found))
 opened_written epoch ttl tree found v f = record {
   files = record {
-    live_made = λ b g e o. subst (λ u. IsMade u g.bytes) (sym (f.made b)) (v.reading.files.live_made b g e o);
-    archived_made = λ b g e. subst (λ u. IsMade u g.bytes) (sym (f.made b)) (v.reading.files.archived_made b g e);
+    live_made = λ b g e o. subst (λ u. IsMade u g.bytes) (sym (f.made b)) (v.complete.reading.files.live_made b g e o);
+    archived_made = λ b g e. subst (λ u. IsMade u g.bytes) (sym (f.made b)) (v.complete.reading.files.archived_made b g e);
   };
   tmps = record { at = λ name g w e i. absurd (cc) };
   tied = record { at = λ name w e. absurd (cc) };
-  references = v.references;
+  references = v.complete.references;
   parts = record { info = λ a name t g x e. absurd (cc); manifest = λ a name t g x e. absurd (cc); captured = λ a name t x e. absurd (cc); undone = λ a e. absurd (cc) };
   manifests = record {
-    at = λ name x g h e i j. let w = v.reading.snapshots name x (sym (snapshot_is (disk_of tree) found v.says name f) ∙ e) in (
+    at = λ name x g h e i j. let w = v.complete.reading.snapshots name x (sym (snapshot_is (disk_of tree) found v.complete.says name f) ∙ e) in (
       subst (λ (y : FileState). IsInfoOf y.bytes name x.schema.table) (some_is (sym w.info_stands ∙ i)) w.description,
       subst (λ (y : FileState). IsManifestOf y.bytes x) (some_is (sym w.manifest_stands ∙ j)) w.holds,
     );
   };
   lists = record {
     at = λ r c. elim c [
-      | inl i ↦ subst (IsStored (lists_of (disk_of tree) r)) (sym (f.lists r)) (v.reading.lists r (in_reading tree found v f r i)).file
+      | inl i ↦ subst (IsStored (lists_of (disk_of tree) r)) (sym (f.lists r)) (v.complete.reading.lists r (in_reading tree found v f r i)).file
       | inr i ↦ absurd (i.region)
     ];
   };
-  sets = record { at = λ t x e. (v.reading.sets t).file x (sym (set_is (disk_of tree) found v.says t f) ∙ e) };
-  tables = record { at = λ t. table_is (disk_of tree) found v.says t f ∙ ap table_in_set (sym (set_is (disk_of tree) found v.says t f)) };
+  sets = record { at = λ t x e. (v.complete.reading.sets t).file x (sym (set_is (disk_of tree) found v.complete.says t f) ∙ e) };
+  tables = record { at = λ t. table_is (disk_of tree) found v.complete.says t f ∙ ap table_in_set (sym (set_is (disk_of tree) found v.complete.says t f)) };
 }
 
 -- the region of a snapshot that has an entry
@@ -201,16 +201,16 @@ entry_region (r ∷ rs) e m = elim (member-append e r.entries (flat_map (λ (x :
   | inr k ↦ (let w = entry_region rs e k in (w.0, inr w.1, w.2))
 ]
 
-listed_fits : (tree : Tree) (found : Found) (v : IsValid tree) → IsFound (disk_of tree) found v.says → (r : RegionKey) (split : Bool) → InSet (tables_in found) r split → (e : Entry) → Member e (found_list found.lists r).entries → FitsEntry (read_base found.cells) e
+listed_fits : (tree : Tree) (found : Found) (v : IsValid tree) → IsFound (disk_of tree) found v.complete.says → (r : RegionKey) (split : Bool) → InSet (tables_in found) r split → (e : Entry) → Member e (found_list found.lists r).entries → FitsEntry (read_base found.cells) e
 listed_fits tree found v f r split i e m c n =
     ((v.fit.lists r split (in_set tree found v f r split i)).cells e c (list_read tree found v f r e m) (subst (λ y. Member c (cells_of y e)) (made_is tree found v f) n)).family
 
-copied_fits : (tree : Tree) (found : Found) (v : IsValid tree) → IsFound (disk_of tree) found v.says → (name : List ℕ) (x : Snapshot) (e : Entry) → get (from_entries {R = bytes_cmp} found.snapshots) name ≡ Some x → Member e (snapshot_entries x) → FitsEntry (read_base found.cells) e
+copied_fits : (tree : Tree) (found : Found) (v : IsValid tree) → IsFound (disk_of tree) found v.complete.says → (name : List ℕ) (x : Snapshot) (e : Entry) → get (from_entries {R = bytes_cmp} found.snapshots) name ≡ Some x → Member e (snapshot_entries x) → FitsEntry (read_base found.cells) e
 copied_fits tree found v f name x e i m c n =
     let w = entry_region x.regions e m in
-    (((v.fit.snapshots name x (sym (snapshot_is (disk_of tree) found v.says name f) ∙ i)).entries w.0 w.1).cells e c w.2 (subst (λ y. Member c (cells_of y e)) (made_is tree found v f) n)).family
+    (((v.fit.snapshots name x (sym (snapshot_is (disk_of tree) found v.complete.says name f) ∙ i)).entries w.0 w.1).cells e c w.2 (subst (λ y. Member c (cells_of y e)) (made_is tree found v f) n)).family
 
-opened_faithful : (epoch ttl : ℕ) (tree : Tree) (found : Found) (v : IsValid tree) → IsFound (disk_of tree) found v.says → IsFaithful (opened (told_opening epoch ttl tree found))
+opened_faithful : (epoch ttl : ℕ) (tree : Tree) (found : Found) (v : IsValid tree) → IsFound (disk_of tree) found v.complete.says → IsFaithful (opened (told_opening epoch ttl tree found))
 opened_faithful epoch ttl tree found v f = record {
   contents = record { at = λ r i. same-refl _ };
   kept = record { at = λ r i. refl };
@@ -228,48 +228,48 @@ opened_faithful epoch ttl tree found v f = record {
   };
 }
 
-listed_sides : (tree : Tree) (found : Found) (v : IsValid tree) → IsFound (disk_of tree) found v.says → (r : RegionKey) (split : Bool) → InSet (tables_in found) r split → InReading v.says r → AreEntries r (found_list found.lists r).entries
+listed_sides : (tree : Tree) (found : Found) (v : IsValid tree) → IsFound (disk_of tree) found v.complete.says → (r : RegionKey) (split : Bool) → InSet (tables_in found) r split → InReading v.complete.says r → AreEntries r (found_list found.lists r).entries
 listed_sides tree found v f r split i k = subst (λ (l : RegionFiles). AreEntries r l.entries) (sym (f.lists r)) (record {
-  names = λ e m. (v.reading.stand r e k m).names;
-  side = one_side (v.says.lists r).entries (v.fit.lists r split (in_set tree found v f r split i)).beside;
+  names = λ e m. (v.complete.reading.stand r e k m).names;
+  side = one_side (v.complete.says.lists r).entries (v.fit.lists r split (in_set tree found v f r split i)).beside;
 })
 
-opened_pointed : (epoch ttl : ℕ) (tree : Tree) (found : Found) (v : IsValid tree) → IsFound (disk_of tree) found v.says → IsPointed (opened (told_opening epoch ttl tree found))
+opened_pointed : (epoch ttl : ℕ) (tree : Tree) (found : Found) (v : IsValid tree) → IsFound (disk_of tree) found v.complete.says → IsPointed (opened (told_opening epoch ttl tree found))
 opened_pointed epoch ttl tree found v f = record {
   sides = record {
     listed = λ r i. elim i [ inl k ↦ listed_sides tree found v f r false k (in_reading tree found v f r (inl k)) | inr k ↦ listed_sides tree found v f r true k (in_reading tree found v f r (inr k)) ];
     captured = λ a r l e. absurd (cc);
-    completed = λ name x c e m. let k = sym (snapshot_is (disk_of tree) found v.says name f) ∙ e in record {
-      names = λ y n. (v.reading.snapshots name x k).names c y m n;
+    completed = λ name x c e m. let k = sym (snapshot_is (disk_of tree) found v.complete.says name f) ∙ e in record {
+      names = λ y n. (v.complete.reading.snapshots name x k).names c y m n;
       side = one_side c.entries ((v.fit.snapshots name x k).entries c m).beside;
     };
   };
   built = record { at = λ a i b g m. absurd m };
-  listed = record { at = λ r e g i m j. v.reading.point r e g (in_reading tree found v f r i) (list_read tree found v f r e m) j };
+  listed = record { at = λ r e g i m j. v.complete.reading.point r e g (in_reading tree found v f r i) (list_read tree found v f r e m) j };
 }
 
-opened_recovers : (epoch ttl : ℕ) (tree : Tree) (found : Found) (v : IsValid tree) → IsFound (disk_of tree) found v.says → Recovers tree (opened (told_opening epoch ttl tree found)).plain
+opened_recovers : (epoch ttl : ℕ) (tree : Tree) (found : Found) (v : IsValid tree) → IsFound (disk_of tree) found v.complete.says → Recovers tree (opened (told_opening epoch ttl tree found)).plain
 opened_recovers epoch ttl tree found v f = record {
-  says = v.says;
-  reading = v.reading;
-  tables = λ t. table_is (disk_of tree) found v.says t f;
+  says = v.complete.says;
+  reading = v.complete.reading;
+  tables = λ t. table_is (disk_of tree) found v.complete.says t f;
   regions = λ r i. record {
     same = same-equal (λ j. cells_in (sym (made_is tree found v f) j) ((sym (f.lists r) j).entries));
     kept = ap (λ (l : RegionFiles). l.seq) (sym (f.lists r));
   };
-  snapshots = λ name. subst (λ o. Copies v.says.made o (get (opened (told_opening epoch ttl tree found)).plain.snapshots name)) (snapshot_is (disk_of tree) found v.says name f)
+  snapshots = λ name. subst (λ o. Copies v.complete.says.made o (get (opened (told_opening epoch ttl tree found)).plain.snapshots name)) (snapshot_is (disk_of tree) found v.complete.says name f)
       (subst (λ y. Copies y (get (from_entries {R = bytes_cmp} found.snapshots) name) (get (opened (told_opening epoch ttl tree found)).plain.snapshots name)) (made_is tree found v f) (copy_is (read_base found.cells) found name));
   stop = record { mem = λ r. refl; frozen = λ r. refl; seq = λ r. refl; live = refl; captures = λ a r. refl; noted = λ a r. refl };
 }
 
 -- ---- all of it
 
-begins : (epoch ttl : ℕ) (tree : Tree) (found : Found) → IsTree tree → (v : IsValid tree) → IsFound (disk_of tree) found v.says → ((name : List ℕ) → disk_of tree (Tmp name) ≡ None) → HasNewEpoch (disk_of tree) epoch → BeginsWell (told_opening epoch ttl tree found) tree
+begins : (epoch ttl : ℕ) (tree : Tree) (found : Found) → IsTree tree → (v : IsValid tree) → IsFound (disk_of tree) found v.complete.says → ((name : List ℕ) → disk_of tree (Tmp name) ≡ None) → HasNewEpoch (disk_of tree) epoch → BeginsWell (told_opening epoch ttl tree found) tree
 begins epoch ttl tree found t v f swept new = record {
   begins = record {
     told = refl;
     files = t;
-    sites = λ place k. let w = v.rows place k in record { site = w.site; spelled = w.lawful.0; text = w.text };
+    sites = λ place k. let w = v.complete.rows place k in record { site = w.site; spelled = w.lawful.0; text = w.text };
     sound = opened_sound epoch ttl tree found v f swept new;
     filed = opened_filed epoch ttl tree found v f;
   };

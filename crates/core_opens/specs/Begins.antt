@@ -46,7 +46,7 @@ pub record CanBegin (o : Opening) (tree : Tree) : Type 0 where
   pub told : o.tree ≡ Some tree
   pub files : IsTree tree
   pub valid : IsValid tree
-  pub found : IsFound (disk_of tree) o.found valid.says
+  pub found : IsFound (disk_of tree) o.found valid.complete.says
   pub swept : (name : List ℕ) → disk_of tree (Tmp name) ≡ None
   pub epoch : HasNewEpoch (disk_of tree) o.epoch
 

@@ -42,7 +42,7 @@ pub record Fit (x : Reading) : Type 0 where
 
 -- every place has a row; sets, lists, both files of snapshots and files with cells are in their grammars, with all that they name
 -- (IsReading); no base is both live and archived; links and halves have their back references and their bases
-pub record IsValid (tree : Tree) : Type 0 where
+pub record IsComplete (tree : Tree) : Type 0 where
   pub rows : (place : List ℕ) → contains_key tree place ≡ true → HasRow place
   pub empties : HasEmptyFiles (disk_of tree)
   pub references : HasReferences (live_of (disk_of tree))
@@ -51,4 +51,8 @@ pub record IsValid (tree : Tree) : Type 0 where
   pub pointed : HasPointed (live_of (disk_of tree)) (archived_of (disk_of tree))
   pub says : Reading
   pub reading : IsReading (disk_of tree) says
-  pub fit : Fit says
+
+-- and what is read fits
+pub record IsValid (tree : Tree) : Type 0 where
+  pub complete : IsComplete tree
+  pub fit : Fit complete.says

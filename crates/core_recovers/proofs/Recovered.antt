@@ -80,7 +80,7 @@ stopped_recovers tree s t = let e : disk_of tree ≡ s.disk = λ i p. t.shown.sh
 
 -- ---- journals
 
-now_told : (o : Opening) (tree : Tree) (es : List JournalEntry) (k : ℕ) → IsLife o tree es → BeginsTold o → IsTold (trees_after tree (take k es)).now (replay o (take k es)).now
+pub now_told : (o : Opening) (tree : Tree) (es : List JournalEntry) (k : ℕ) → IsLife o tree es → BeginsTold o → IsTold (trees_after tree (take k es)).now (replay o (take k es)).now
 now_told o tree es k l t = record {
   shown = now_shown o tree es k l;
   sound = (sound_replay o es l.begins.sound l.allowed k).now;
@@ -88,7 +88,7 @@ now_told o tree es k l t = record {
   pointed = (pointed_replay o es k l.begins.sound t.faithful t.pointed l.allowed l.writes).now;
 }
 
-other_told : (o : Opening) (tree : Tree) (es : List JournalEntry) (k : ℕ) → IsLife o tree es → BeginsTold o → IsTold (trees_after tree (take k es)).other (replay o (take k es)).other
+pub other_told : (o : Opening) (tree : Tree) (es : List JournalEntry) (k : ℕ) → IsLife o tree es → BeginsTold o → IsTold (trees_after tree (take k es)).other (replay o (take k es)).other
 other_told o tree es k l t = record {
   shown = other_shown o tree es k l;
   sound = (sound_replay o es l.begins.sound l.allowed k).other;

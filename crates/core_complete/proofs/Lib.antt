@@ -1,0 +1,2 @@
+mod PlacedKept
+mod Complete

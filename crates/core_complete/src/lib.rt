@@ -1,0 +1,4 @@
+//! That the trees of journals stay complete.
+#![tactic(auto)]
+
+pub mod laws;
