@@ -42,11 +42,11 @@ Rising-same n parts vs x so_far other = record {
 }
 
 -- the families are no others
-pub no_rise : (parts : List (ℕ × Part)) (vs : List Family) (x : Part) (v : Family) → Rising (Inner IsFamilyFiles) 3 parts vs → Inner IsFamilyFiles x v → (AreRising (vs ++ v ∷ []) → ⊥)
+pub no_rise : (parts : List (ℕ × Part)) (vs : List Family) (x : Part) (v : Family) → Spell (Inner IsFamilyFiles) (values_of 3 parts) vs → Inner IsFamilyFiles x v → (AreRising (vs ++ v ∷ []) → ⊥)
     → (families : List Family) (family : Family) → Spell (Inner IsFamilyFiles) (values_of 3 parts) families → Inner IsFamilyFiles x family → AreRising (families ++ family ∷ []) → ⊥
-no_rise parts vs x v so_far is none families family each is' rise =
+no_rise parts vs x v before is none families family each is' rise =
     let one = OneValue-Inner IsFamilyFiles OneValue-IsFamilyFiles in
-    let all : families ≡ vs = OneValue-Spell (Inner IsFamilyFiles) one (values_of 3 parts) families vs each so_far.each in
+    let all : families ≡ vs = OneValue-Spell (Inner IsFamilyFiles) one (values_of 3 parts) families vs each before in
     let last : family ≡ v = one x family v is' is in
     none (subst (λ f. AreRising (vs ++ f ∷ [])) last (subst (λ fs. AreRising (fs ++ family ∷ [])) all rise))
 

@@ -23,8 +23,9 @@ use Rattle.snapshot_records.specs.Manifest.{IsSeq, part_rules, part_made, IsRegi
 use Rattle.snapshot_records.proofs.Told.{OneValue-LastInner, OneValue-RepeatedInner, OneValue-AnyNumber, OneValue-LastText, OneValue-IsTableMessage, OneValue-IsRegionInfo, OneValue-IsReferenceMessage, OneValue-IsAttribute, OneValue-IsFamilySchema, OneValue-IsTableSchema, OneValue-IsEntryName, OneValue-IsFile, OneValue-IsFamilyFiles, OneValue-IsRegionManifest}
 use Rattle.snapshot_messages.specs.Faults.{IsReferenceMessageFault, IsTableMessageFault, IsRegionInfoFault}
 use Rattle.snapshot_messages.proofs.Told.{no_text, no_number, no_reference, no_table, no_region}
-use Rattle.manifest_messages.specs.Faults.{IsPair, IsPairFault, IsAttributeFault, IsFamilySchemaFault, IsTableSchemaFault, IsFileFault, IsFamilyFilesFault, AreRising, WrongFamily, wrong_part, IsRegionManifestFault, IsManifestFault}
+use Rattle.manifest_messages.specs.Faults.{IsPair, IsPairFault, IsAttributeFault, IsFamilySchemaFault, IsTableSchemaFault, IsFileFault, IsFamilyFilesFault, AreRising, IsOutOfOrder, WrongFamily, wrong_part, IsRegionManifestFault, IsManifestFault}
 use Rattle.manifest_messages.proofs.Rises.{rising-front}
+use Rattle.manifest_messages.proofs.Rising.{no_rise}
 
 -- a last field that is a message, and a repeated one
 no_last : {V : Type 0} (spells : List ℕ → V → Type 0) (fault : List ℕ → ℕ → RecordError → Type 0) (id : ℕ)
@@ -102,11 +103,11 @@ front_rises front back v rise =
 values_here : (id : ℕ) (p : ℕ × Part) (others : List (ℕ × Part)) → p.0 ≡ id → values_of id (p ∷ others) ≡ p.1 ∷ values_of id others
 values_here id p others same = ap (λ (b : Bool). cond b (p.1 ∷ values_of id others) (values_of id others)) (eq-eqb p.0 id same)
 
-no_order : (before others : List (ℕ × Part)) (p : ℕ × Part) (vs back : List (List ℕ × List File))
-    → ((families : List (List ℕ × List File)) (family : List ℕ × List File) → Spell (Inner IsFamilyFiles) (values_of 3 before) families → Inner IsFamilyFiles p.1 family → AreRising (families ++ family ∷ []) → ⊥)
+no_order : (before others : List (ℕ × Part)) (p : ℕ × Part) (vs back : List (List ℕ × List File)) → IsOutOfOrder before p.1
     → Spell (Inner IsFamilyFiles) (values_of 3 before) vs → Spell (Inner IsFamilyFiles) (p.1 ∷ values_of 3 others) back → AreRising (vs ++ back) → ⊥
-no_order before others p vs [] none first rest rise = rest
-no_order before others p vs (v ∷ back) none first rest rise = none vs v first rest.0 (front_rises vs back v rise)
+no_order before others p vs [] bad first rest rise = rest
+no_order before others p vs (v ∷ back) bad first rest rise =
+    no_rise before bad.families p.1 bad.family bad.before bad.here bad.falls vs v first rest.0 (front_rises vs back v rise)
 
 no_rising : FieldExcludes (Rising (Inner IsFamilyFiles) 3) WrongFamily
 no_rising before others p at inside e values (inl wrong) rising =

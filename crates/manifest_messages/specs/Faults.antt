@@ -50,14 +50,18 @@ IsFamilyFilesFault = RecordFault files_rules (λ parts. Wrong 1 (Whole (Text IsF
 abbrev pub AreRising : List (List ℕ × List File) → Type 0
 AreRising = IsStrictlySortedBy (on (λ (v : List ℕ × List File). v.0) (slice_cmp nat_cmp))
 
--- the files of a family behind some fields have a fault, or the family does not stand above those before, which is told
--- of its field
+-- the families before, and the one that a value is, which does not stand above them
+pub record IsOutOfOrder (parts : List (ℕ × Part)) (part : Part) : Type 0 where
+  pub families : List (List ℕ × List File)
+  pub family : List ℕ × List File
+  pub before : Spell (Inner IsFamilyFiles) (values_of 3 parts) families
+  pub here : Inner IsFamilyFiles part family
+  pub falls : AreRising (families ++ family ∷ []) → ⊥
+
+-- the files of a family behind some fields have a fault, or are read and the family does not stand above those before,
+-- which is told of its field
 abbrev pub WrongFamily : List (ℕ × Part) → ℕ × Part → ℕ → ℕ → RecordError → Type 0
-WrongFamily parts p at inside e =
-    Wrong 3 (Within IsFamilyFilesFault) p at inside e
-    ⊎ ((p.0 ≡ 3) × IsAt at e
-    × ((families : List (List ℕ × List File)) (family : List ℕ × List File) → Spell (Inner IsFamilyFiles) (values_of 3 parts) families
-    → Inner IsFamilyFiles p.1 family → AreRising (families ++ family ∷ []) → ⊥))
+WrongFamily parts p at inside e = Wrong 3 (Within IsFamilyFilesFault) p at inside e ⊎ ((p.0 ≡ 3) × IsAt at e × IsOutOfOrder parts p.1)
 
 abbrev pub wrong_part : List (ℕ × Part) → ℕ × Part → ℕ → ℕ → RecordError → Type 0
 wrong_part parts = Wrong 1 (Whole AnyNumber) or (Wrong 2 (Within IsRegionInfoFault) or (WrongFamily parts or Wrong 100 (Whole (Number IsSeq))))
