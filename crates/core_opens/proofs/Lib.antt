@@ -3,4 +3,5 @@ mod Beside
 mod Read
 pub mod Opens
 mod Lives
+mod Bare
 mod Faultless

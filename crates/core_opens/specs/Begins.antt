@@ -1,5 +1,6 @@
 -- What an opening reads of a tree, and openings that journals may begin with.
 use Rattle.std.specs.Prelude.{◌≡◌, ◌⊎◌, ℕ, true, List, [], ◌∷◌, Some, None}
+use Rattle.std.specs.FinMap.{empty}
 use Rattle.cell_sight.specs.Member.{Member}
 use Rattle.hb_cell.specs.declared.cell.Cell.{Cell}
 use Rattle.hb_layout.specs.declared.base.Base.{Base}
@@ -19,6 +20,7 @@ use Rattle.core_model.specs.FileFacts.{IsDrawn}
 use Rattle.core_model.specs.Opened.{found_list, opened, read_base}
 use Rattle.core_model.specs.Replay.{begun, replay}
 use Rattle.core_model.specs.Site.{Tmp, is_store_name}
+use Rattle.core_sound.specs.Laws.{bare_opening}
 use Rattle.core_bytes.specs.Laws.{WriteFrom}
 use Rattle.core_bytes.specs.Written.{IsWritten}
 use Rattle.core_recovers.specs.Reading.{Reading}
@@ -59,6 +61,10 @@ pub record BeginsWell (o : Opening) (tree : Tree) : Type 0 where
 
 abbrev pub BeginsValid : Opening → Tree → Type 0
 BeginsValid o tree = CanBegin o tree → BeginsWell o tree
+
+-- over a store without files
+abbrev pub BeginsBare : ℕ → ℕ → Type 0
+BeginsBare epoch ttl = CanBegin (bare_opening epoch ttl) empty
 
 -- ---- lives
 

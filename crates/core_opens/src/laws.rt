@@ -4,15 +4,16 @@ ghost use Rattle.std.specs.Prelude.{ℕ, List};
 ghost use Rattle.ns_tree.specs.Tree.{Tree};
 ghost use Rattle.core_model.specs.declared.journal.Journal.{Journal};
 ghost use Rattle.core_model.specs.declared.opening.Opening.{Opening};
-ghost use Rattle.core_opens.specs.Begins.{BeginsValid, LivesGoOn};
+ghost use Rattle.core_opens.specs.Begins.{BeginsBare, BeginsValid, LivesGoOn};
 ghost use Rattle.core_opens.specs.Faults.{Fault};
 ghost use Rattle.core_opens.specs.Laws.{HasNoFault};
 
 /// An opening that read a valid tree, in which no work in progress is left, begins with a sound state, whose files are the
 /// newest and what they were written of, have what the plain machine has, and whose halves say their rows; and its plain state
-/// is what the tree gives back.
+/// is what the tree gives back. A store without files is valid, and its opening begins so.
 pub fn valid_trees_begin_well()
-    ensures { (o : Opening) (tree : Tree) → BeginsValid o tree }
+    ensures trees { (o : Opening) (tree : Tree) → BeginsValid o tree }
+    ensures bare { (epoch ttl : ℕ) → BeginsBare epoch ttl }
 {}
 
 /// In a life, journals over one store whose openings read valid trees and give back what the store had, each opening begins
