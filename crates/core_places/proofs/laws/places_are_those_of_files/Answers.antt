@@ -1,0 +1,9 @@
+use Rattle.core_places.proofs.Kept.{places_kept}
+use Rattle.core_places.proofs.Shown.{places_shown}
+use Rattle.core_places.proofs.laws.places_are_those_of_files.Goals as goal
+
+pub returns-clause-kept : goal.returns-clause-kept
+returns-clause-kept c = places_kept
+
+pub returns-clause-shown : goal.returns-clause-shown
+returns-clause-shown c = places_shown

@@ -1,0 +1,8 @@
+use Rattle.std.proofs.Common.{sym, subst}
+use Rattle.hb_names.specs.Place.{IsPlace}
+use Rattle.hb_layout.specs.Spot.{RegionSet}
+use Rattle.hb_layout.proofs.LawfulLemmas.{IsPlace-place_text}
+use Rattle.core_places.proofs.texts.set_place.Goals as goal
+
+pub from_blob-requires : goal.from_blob-requires
+from_blob-requires c = subst IsPlace (sym c.in_ok-set_text.ensures.text) (IsPlace-place_text (RegionSet c.args.table.now c.args.number) c.in_ok-set_text.ensures.spelled)
