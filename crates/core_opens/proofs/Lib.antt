@@ -1,6 +1,6 @@
-mod Entered
+pub mod Entered
 mod Beside
-mod Read
+pub mod Read
 pub mod Opens
 mod Lives
 mod Bare

@@ -1,0 +1,4 @@
+//! That the regions of a table cover all rows and differ.
+#![tactic(auto)]
+
+pub mod laws;
