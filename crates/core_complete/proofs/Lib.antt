@@ -1,2 +1,2 @@
 mod PlacedKept
-mod Complete
+pub mod Complete

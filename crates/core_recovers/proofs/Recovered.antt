@@ -24,7 +24,7 @@ use Rattle.core_recovers.specs.Recovers.{IsTold, RecoversDisk, RecoversStopped, 
 
 -- ---- what a state says
 
-abbrev says : Parts → Reading
+abbrev pub says : Parts → Reading
 says s = record { sets = λ table. get s.sets table; lists = s.lists; snapshots = λ name. get s.snapshots name; made = s.made }
 
 in_set : (tree : Tree) (s : Parts) → IsTold tree s → (r : RegionKey) (split : Bool) → IsIn (says s).sets r split → InSet s.plain.tables r split
@@ -52,7 +52,7 @@ snapshot_read tree s t name x e =
       names = λ c y m n. (t.pointed.sides.completed name x c e m).names y n;
     }
 
-reading_of : (tree : Tree) (s : Parts) → IsTold tree s → IsReading s.disk (says s)
+pub reading_of : (tree : Tree) (s : Parts) → IsTold tree s → IsReading s.disk (says s)
 reading_of tree s t = record {
   sets = λ table. record { above = t.shown.filed.sets.at table; file = t.shown.written.sets.at table };
   lists = λ r i. let k = inl (region_of tree s t r i) in record { above = t.shown.filed.lists.at r k; file = t.shown.written.lists.at r k };

@@ -55,7 +55,7 @@ read_fit : (o : Option RegionSet) (tb : PlainTable) → table_in_set o ≡ Some 
 read_fit None tb e f = absurd (cc)
 read_fit (Some s) tb e f = set_fit s.state s tb e (f s refl)
 
-opened_covered : (o : Opening) (tree : Tree) → CanBegin o tree → IsCovered (opened.opened o)
+pub opened_covered : (o : Opening) (tree : Tree) → CanBegin o tree → IsCovered (opened.opened o)
 opened_covered o tree c = record {
   tables = record { at = λ t tb e. read_fit (c.valid.complete.says.sets t) tb (sym (table_is (disk_of tree) o.found c.valid.complete.says t c.found) ∙ e) (c.valid.fit.sets t) };
   snapshots = record { at = λ name x e. let f = c.valid.fit.snapshots name x (sym (snapshot_is (disk_of tree) o.found c.valid.complete.says name c.found) ∙ e) in record { regions = f.regions; families = f.families; table = f.table } };
@@ -65,12 +65,12 @@ opened_covered o tree c = record {
 
 -- ---- entries
 
-limits_front : (k : ℕ) (es : List JournalEntry) → HaveLimits es → HaveLimits (take k es)
+pub limits_front : (k : ℕ) (es : List JournalEntry) → HaveLimits es → HaveLimits (take k es)
 limits_front zero es h = tt
 limits_front (suc k) [] h = tt
 limits_front (suc k) (e ∷ es) h = (h.0, limits_front k es h.1)
 
-entry_covered : (n : ℕ) (e : JournalEntry) (s : State) → HasFew n s → HasLimits e.step → AllowsEntry n e s → IsSoundState s → IsWrittenState s → IsFaithfulState s → IsCoveredState s → IsCoveredState (replay.step n s e)
+pub entry_covered : (n : ℕ) (e : JournalEntry) (s : State) → HasFew n s → HasLimits e.step → AllowsEntry n e s → IsSoundState s → IsWrittenState s → IsFaithfulState s → IsCoveredState s → IsCoveredState (replay.step n s e)
 entry_covered n e s w l a h i f k = record {
   now = elim e.failed as (λ b. IsCovered (unless b (after e.step) s.now)) [ true ↦ k.now | false ↦ covered_kept e.step s.now w.now_limit l a.0.1 h.now i.now f.now k.now ];
   other = covered_kept e.step s.other w.other_limit l (allowed_other n e s a h) h.other i.other f.other k.other;

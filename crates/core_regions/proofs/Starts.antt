@@ -114,7 +114,7 @@ new_hold job actor drawn s a h x m = record { activity = record { actor = actor;
 
 -- ---- a split
 
-find-holds : (p : RegionInfo → Bool) (is : List RegionInfo) (i : RegionInfo) → find p is ≡ Some i → p i ≡ true
+pub find-holds : (p : RegionInfo → Bool) (is : List RegionInfo) (i : RegionInfo) → find p is ≡ Some i → p i ≡ true
 find-holds p [] i e = absurd (cc)
 find-holds p (x ∷ is) i e = cond_cases (p x) (Some x) (find p is) (Some i) e (λ d z. ap p (sym (some_is z)) ∙ d) (λ d z. find-holds p is i z)
 
