@@ -180,8 +180,8 @@ changed_holds (Some (jobs.Split t row)) (event.Split u parent low high) table a 
     let apart : encoded low ≢ encoded high = λ y. g.halves.differ (ap encoded lows ∙ y ∙ sym (ap encoded highs)) in
     let there : get s.plain.tables u ≡ Some d.is_open.table = ap (get s.plain.tables) (sym (ap (λ (r : RegionKey). r.table) key)) ∙ d.is_open.stands in
     let whole : HoldsCells d.whole w.0.schema.families (s.plain.stable (key_at u parent)) (s.plain.mem (key_at u parent)) (s.plain.kept (key_at u parent)) (s.plain.seq (key_at u parent)) =
-        subst (λ (r : RegionKey). HoldsCells d.whole w.0.schema.families (s.plain.stable r) (s.plain.mem r) (s.plain.kept r) (s.plain.seq r)) key
-        (k.regions.at u w.0 d.whole false w.1 (subst (λ (x : PlainTable). Member (d.whole, false) x.regions) (some_is (sym there ∙ w.1)) d.is_open.listed)) in
+    subst (λ (r : RegionKey). HoldsCells d.whole w.0.schema.families (s.plain.stable r) (s.plain.mem r) (s.plain.kept r) (s.plain.seq r)) key
+    (k.regions.at u w.0 d.whole false w.1 (subst (λ (x : PlainTable). Member (d.whole, false) x.regions) (some_is (sym there ∙ w.1)) d.is_open.listed)) in
     subst (λ (x : PlainTable). Member (i, split) x.regions → After (event.Split u parent low high) s x i) w.2 (λ n. elim (split_region s u parent low high i split w.0 n) [
       | inl q ↦ subst (λ (x : RegionInfo). HoldsCells x w.0.schema.families ((plain.after (event.Split u parent low high) s.plain).stable (key_of x)) ((plain.after (event.Split u parent low high) s.plain).mem (key_of x)) ((plain.after (event.Split u parent low high) s.plain).kept (key_of x)) ((plain.after (event.Split u parent low high) s.plain).seq (key_of x))) q
           (new_region low w.0.schema.families _ _ (under high.start (s.plain.stable (key_at u parent))) _ _ (s.plain.kept (key_at u parent)) (set_here (key_of low) (under high.start (s.plain.stable (key_at u parent))) (set_at (key_of high) (from high.start (s.plain.stable (key_at u parent))) s.plain.stable))

@@ -64,9 +64,9 @@ pub captured_holds : (a : ℕ) (r : RegionKey) (s : Parts) (stable : RegionKey �
 captured_holds a r s stable kept o k f = record {
   at = λ w q c tb i split e t m n. cond_cases ((w == a) && same_key q r) (copy_of (stable r) (kept r) o) (s.plain.captures w q) (Some c) e
       (λ d z.
-        let y = capture_parts (stable r) (kept r) o c z in
-        let x : key_of i ≡ r = n ∙ same_key-true q r (both_right (w == a) (same_key q r) d) in
-        subst (λ v. AreCellsOf i tb.schema.families v c.cells) (ap kept x ∙ y.1) (subst (λ v. AreCellsOf i tb.schema.families (kept (key_of i)) v) (ap stable x ∙ y.0) (f q.table tb i split t m)))
+      let y = capture_parts (stable r) (kept r) o c z in
+      let x : key_of i ≡ r = n ∙ same_key-true q r (both_right (w == a) (same_key q r) d) in
+      subst (λ v. AreCellsOf i tb.schema.families v c.cells) (ap kept x ∙ y.1) (subst (λ v. AreCellsOf i tb.schema.families (kept (key_of i)) v) (ap stable x ∙ y.0) (f q.table tb i split t m)))
       (λ d z. k.captures.at w q c tb i split z t m n);
 }
 
@@ -140,8 +140,8 @@ completed_holds a name x y s tb g h f k t e =
     (subst (λ (z : PlainSnapshot). AllZip (CopyHolds (families_of_table (get s.plain.tables g.table))) (filter_map (copied (s.captures a)) (open_in s.plain g.table)) z.regions) e
     (subst (λ (o : Option PlainTable). AllZip (CopyHolds (families_of_table o)) (filter_map (copied (s.captures a)) (open_of (regions_in o))) (plain.captured (s.plain.captures a) (open_of tb.regions))) (sym t)
     (zip_captured tb.schema.families (s.captures a) (s.plain.captures a) s.made (open_of tb.regions) (f.copied.at a) (λ i c m q.
-      let o = open-member i tb.regions m in
-      k.captures.at a (key_of i) c tb i false q (ap (get s.plain.tables) (h.own_regions.at g.table tb i false t o) ∙ t) o refl))))
+    let o = open-member i tb.regions m in
+    k.captures.at a (key_of i) c tb i false q (ap (get s.plain.tables) (h.own_regions.at g.table tb i false t o) ∙ t) o refl))))
 
 shot_of : (s : Parts) (a : ℕ) (name t : List ℕ) (o : Option Job) (tb : PlainTable) → o ≡ Some (jobs.Snapshot t name) → get s.plain.tables t ≡ Some tb
     → completed o (s.plain.captures a) s.plain.tables s.plain.snapshots ≡ insert s.plain.snapshots name (record { schema = tb.schema; regions = plain.captured (s.plain.captures a) (open_of tb.regions) })

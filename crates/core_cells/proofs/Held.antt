@@ -244,6 +244,7 @@ visible_once families xs = rising (visible families xs) (ascends families xs)
     least x [] h m = m
     least x (y ∷ ys) h (inl e) = let z = ap (λ d. is_lt (key_cmp x d)) (sym e) ∙ both_left (is_lt (key_cmp x y)) _ h in let w : false ≡ true = sym (ap is_lt (key_cmp-itself x x refl)) ∙ ap (λ d. is_lt (key_cmp x d)) (sym e) ∙ both_left (is_lt (key_cmp x y)) _ h in absurd (cc)
     least x (y ∷ ys) h (inr m) = least x ys (both_right (is_lt (key_cmp x y)) _ h) m
+
     rising : (ys : List Cell) → Rises ys → AreOnce ys
     rising [] h c = omega arith
     rising (y ∷ ys) h c = let a = count-cons (eq_by_cmp key_cmp c) y ys in let k = rising ys h.1 c in

@@ -72,15 +72,15 @@ pub put_new : (table : List ℕ) (joined : List ℕ × ℕ) (c : Cell) (s : Part
     → IsNumbered b a n s.plain.live s.plain.tables (s.plain.stable (home b)) (cond (same_key (home b) (key_at table joined.0)) (s.plain.mem (key_at table joined.0) ++ c ∷ []) (s.plain.mem (home b))) (cond (same_key (home b) (key_at table joined.0)) (s.plain.seq (key_at table joined.0) + 1) (s.plain.seq (home b)))
 put_new table joined c s b a n e h = (elim (same_key (home b) (key_at table joined.0)) as (λ x. same_key (home b) (key_at table joined.0) ≡ x → IsNumbered b a n s.plain.live s.plain.tables (s.plain.stable (home b)) (cond x (s.plain.mem (key_at table joined.0) ++ c ∷ []) (s.plain.mem (home b))) (cond x (s.plain.seq (key_at table joined.0) + 1) (s.plain.seq (home b)))) [
   | true ↦ λ d. let q = same_key-true (home b) (key_at table joined.0) d in let u = h.drawn in let v = ap s.plain.seq q in record {
-      load = h.load;
-      region = h.region;
-      drawn = omega (arith, u, v);
-      no_file = h.no_file;
-      no_wait = λ x m z. elim (member-append x (s.plain.mem (key_at table joined.0)) (c ∷ []) m) [
-        | inl k ↦ h.no_wait x (subst (λ r. Member x (s.plain.mem r)) (sym q) k) z
-        | inr k ↦ elim k [ inl w ↦ (let y = ap (λ (g : Cell). g.seq) w in absurd (omega (arith, u, v, y, z, e))) | inr w ↦ absurd w ]
-      ];
-    }
+    load = h.load;
+    region = h.region;
+    drawn = omega (arith, u, v);
+    no_file = h.no_file;
+    no_wait = λ x m z. elim (member-append x (s.plain.mem (key_at table joined.0)) (c ∷ []) m) [
+      | inl k ↦ h.no_wait x (subst (λ r. Member x (s.plain.mem r)) (sym q) k) z
+      | inr k ↦ elim k [ inl w ↦ (let y = ap (λ (g : Cell). g.seq) w in absurd (omega (arith, u, v, y, z, e))) | inr w ↦ absurd w ]
+    ];
+  }
   | false ↦ λ d. h
 ]) refl
 
@@ -94,15 +94,15 @@ pub flush_new : (r : RegionKey) (s : Parts) (b : Base) (a n : ℕ) → Numbered 
     → IsNumbered b a n s.plain.live s.plain.tables (cond (same_key (home b) r) (s.plain.stable r ++ take (s.plain.frozen r) (s.plain.mem r)) (s.plain.stable (home b))) (cond (same_key (home b) r) (drop (s.plain.frozen r) (s.plain.mem r)) (s.plain.mem (home b))) (s.plain.seq (home b))
 flush_new r s b a n h = (elim (same_key (home b) r) as (λ x. same_key (home b) r ≡ x → IsNumbered b a n s.plain.live s.plain.tables (cond x (s.plain.stable r ++ take (s.plain.frozen r) (s.plain.mem r)) (s.plain.stable (home b))) (cond x (drop (s.plain.frozen r) (s.plain.mem r)) (s.plain.mem (home b))) (s.plain.seq (home b))) [
   | true ↦ λ d. let q = same_key-true (home b) r d in record {
-      load = h.load;
-      region = h.region;
-      drawn = h.drawn;
-      no_file = λ c m. elim (member-append c (s.plain.stable r) (take (s.plain.frozen r) (s.plain.mem r)) m) [
-        | inl k ↦ h.no_file c (subst (λ v. Member c (s.plain.stable v)) (sym q) k)
-        | inr k ↦ h.no_wait c (subst (λ v. Member c (s.plain.mem v)) (sym q) (of_take (s.plain.frozen r) c (s.plain.mem r) k))
-      ];
-      no_wait = λ c m. h.no_wait c (subst (λ v. Member c (s.plain.mem v)) (sym q) (of_drop (s.plain.frozen r) c (s.plain.mem r) m));
-    }
+    load = h.load;
+    region = h.region;
+    drawn = h.drawn;
+    no_file = λ c m. elim (member-append c (s.plain.stable r) (take (s.plain.frozen r) (s.plain.mem r)) m) [
+      | inl k ↦ h.no_file c (subst (λ v. Member c (s.plain.stable v)) (sym q) k)
+      | inr k ↦ h.no_wait c (subst (λ v. Member c (s.plain.mem v)) (sym q) (of_take (s.plain.frozen r) c (s.plain.mem r) k))
+    ];
+    no_wait = λ c m. h.no_wait c (subst (λ v. Member c (s.plain.mem v)) (sym q) (of_drop (s.plain.frozen r) c (s.plain.mem r) m));
+  }
   | false ↦ λ d. h
 ]) refl
 
@@ -125,17 +125,17 @@ pub load_new : (e : ℕ) (r : RegionKey) (l : RegionFiles) (cells : List Cell) (
     → IsNumbered b a n s.plain.live s.plain.tables (cond (same_key (home b) r) (s.plain.stable r ++ cells) (s.plain.stable (home b))) (s.plain.mem (home b)) (s.plain.seq (home b))
 load_new e r l cells more s b a n g k o w x h = (elim (same_key (home b) r) as (λ y. same_key (home b) r ≡ y → IsNumbered b a n s.plain.live s.plain.tables (cond y (s.plain.stable r ++ cells) (s.plain.stable (home b))) (s.plain.mem (home b)) (s.plain.seq (home b))) [
   | true ↦ λ d. let q = same_key-true (home b) r d in record {
-      load = h.load;
-      region = h.region;
-      drawn = h.drawn;
-      no_file = λ c m z. elim (member-append c (s.plain.stable r) cells m) [
-        | inl i ↦ h.no_file c (subst (λ v. Member c (s.plain.stable v)) (sym q) i) z
-        | inr i ↦ (let v = loaded_of e r l cells more s g k.bulk c i in
-            let same : v.base ≡ b = k.loads.apart v.base b e a n v.waiting w (v.region ∙ sym q) (v.named ∙ ap Some z) x in
-            let y : true ≡ false = sym (own_there b g.added l.entries (λ u j. subst (Member u) (sym g.entries) (behind u (s.lists r).entries (map Own g.added) j)) (subst (λ u. Member u g.added) same v.listed)) ∙ o in absurd (cc))
-      ];
-      no_wait = h.no_wait;
-    }
+    load = h.load;
+    region = h.region;
+    drawn = h.drawn;
+    no_file = λ c m z. elim (member-append c (s.plain.stable r) cells m) [
+      | inl i ↦ h.no_file c (subst (λ v. Member c (s.plain.stable v)) (sym q) i) z
+      | inr i ↦ (let v = loaded_of e r l cells more s g k.bulk c i in
+          let same : v.base ≡ b = k.loads.apart v.base b e a n v.waiting w (v.region ∙ sym q) (v.named ∙ ap Some z) x in
+          let y : true ≡ false = sym (own_there b g.added l.entries (λ u j. subst (Member u) (sym g.entries) (behind u (s.lists r).entries (map Own g.added) j)) (subst (λ u. Member u g.added) same v.listed)) ∙ o in absurd (cc))
+    ];
+    no_wait = h.no_wait;
+  }
   | false ↦ λ d. h
 ]) refl
   where
@@ -155,6 +155,7 @@ not_loading {P} s a w job t h j y n x z e = (elim (a == w) as (λ b. a == w ≡ 
   where
     apart : (a == w) ≡ false → a ≡ w → ⊥
     apart d i = grind (arith, nat_tests)
+
     load_job : {g : Job} → g ≡ job → FitsJob (holds.Load t) g → ⊥
     load_job i f = fit job (subst (FitsJob (holds.Load t)) i f) n
       where
@@ -233,15 +234,15 @@ pub place_loads : (source : MoveFrom) (e : ℕ) (base : Base) (cells : List Cell
 place_loads source e base cells s seq g h k f q = record {
   at = λ b a n w x. cond_cases (same_base b base) (Some e) (s.waiting b) (Some a) w
       (λ d i. let y = same_base-true b base d in subst (λ v. IsNumbered v a n s.plain.live s.plain.tables (s.plain.stable (home v)) (s.plain.mem (home v)) (seq (home v))) (sym y)
-        (subst (λ v. IsNumbered base v n s.plain.live s.plain.tables (s.plain.stable (home base)) (s.plain.mem (home base)) (seq (home base))) (some_is i) (let z = ap (λ (c : Base). seq_of c.name) (sym y) ∙ x in
-        subst (λ v. IsNumbered base e n s.plain.live s.plain.tables (s.plain.stable (home base)) (s.plain.mem (home base)) v) (sym (q n z)) (placed_new source e base cells s g h k n z))))
+      (subst (λ v. IsNumbered base v n s.plain.live s.plain.tables (s.plain.stable (home base)) (s.plain.mem (home base)) (seq (home base))) (some_is i) (let z = ap (λ (c : Base). seq_of c.name) (sym y) ∙ x in
+      subst (λ v. IsNumbered base e n s.plain.live s.plain.tables (s.plain.stable (home base)) (s.plain.mem (home base)) v) (sym (q n z)) (placed_new source e base cells s g h k n z))))
       (λ d i. f b a n (k.loads.at b a n i x));
   apart = λ b c a w n x y r u v. cond_cases (same_base b base) (Some e) (s.waiting b) (Some a) x
       (λ d i. cond_cases (same_base c base) (Some e) (s.waiting c) (Some w) y (λ o j. same_base-true b base d ∙ sym (same_base-true c base o))
-        (λ o j. absurd (clash c b w n j (sym r ∙ ap home (same_base-true b base d)) v (ap (λ (z : Base). seq_of z.name) (sym (same_base-true b base d)) ∙ u))))
+      (λ o j. absurd (clash c b w n j (sym r ∙ ap home (same_base-true b base d)) v (ap (λ (z : Base). seq_of z.name) (sym (same_base-true b base d)) ∙ u))))
       (λ d i. cond_cases (same_base c base) (Some e) (s.waiting c) (Some w) y
-        (λ o j. absurd (clash b c a n i (r ∙ ap home (same_base-true c base o)) u (ap (λ (z : Base). seq_of z.name) (sym (same_base-true c base o)) ∙ v)))
-        (λ o j. k.loads.apart b c a w n i j r u v));
+      (λ o j. absurd (clash b c a n i (r ∙ ap home (same_base-true c base o)) u (ap (λ (z : Base). seq_of z.name) (sym (same_base-true c base o)) ∙ v)))
+      (λ o j. k.loads.apart b c a w n i j r u v));
 }
   where
     -- the number of another that waits is not above what was drawn

@@ -88,7 +88,7 @@ put_cell_of table put moment joined s tb i split a h k e m q =
 
 pub put_region : (table : List ℕ) (put : PutCell) (moment : Option ℕ) (joined : List ℕ × ℕ) (s : Parts) (tb : PlainTable) (i : RegionInfo) (split : Bool) → CanPut table put moment (Some joined) s.plain → IsSound s → IsCovered s → get s.plain.tables i.table ≡ Some tb → Member (i, split) tb.regions → Holds s.plain tb i
     → HoldsCells i tb.schema.families (s.plain.stable (key_of i)) (cond (same_key (key_of i) (key_at table joined.0)) (s.plain.mem (key_at table joined.0) ++ cell_put put (unwrap_or moment 0) joined.1 ∷ []) (s.plain.mem (key_of i))) (s.plain.kept (key_of i))
-        (cond (same_key (key_of i) (key_at table joined.0)) (s.plain.seq (key_at table joined.0) + 1) (s.plain.seq (key_of i)))
+    (cond (same_key (key_of i) (key_at table joined.0)) (s.plain.seq (key_at table joined.0) + 1) (s.plain.seq (key_of i)))
 put_region table put moment joined s tb i split a h k e m x = (elim (same_key (key_of i) (key_at table joined.0)) as (λ b. same_key (key_of i) (key_at table joined.0) ≡ b → HoldsCells i tb.schema.families (s.plain.stable (key_of i)) (cond b (s.plain.mem (key_at table joined.0) ++ cell_put put (unwrap_or moment 0) joined.1 ∷ []) (s.plain.mem (key_of i))) (s.plain.kept (key_of i)) (cond b (s.plain.seq (key_at table joined.0) + 1) (s.plain.seq (key_of i)))) [
   | true ↦ λ d.
       let q = same_key-true (key_of i) (key_at table joined.0) d in
@@ -107,13 +107,13 @@ draw_region r s tb i x = (elim (same_key (key_of i) r) as (λ b. same_key (key_o
 
 pub flush_region : (r : RegionKey) (s : Parts) (tb : PlainTable) (i : RegionInfo) → Holds s.plain tb i
     → HoldsCells i tb.schema.families (cond (same_key (key_of i) r) (s.plain.stable r ++ take (s.plain.frozen r) (s.plain.mem r)) (s.plain.stable (key_of i))) (cond (same_key (key_of i) r) (drop (s.plain.frozen r) (s.plain.mem r)) (s.plain.mem (key_of i)))
-        (cond (same_key (key_of i) r) (greatest (s.plain.kept r) (take (s.plain.frozen r) (s.plain.mem r))) (s.plain.kept (key_of i))) (s.plain.seq (key_of i))
+    (cond (same_key (key_of i) r) (greatest (s.plain.kept r) (take (s.plain.frozen r) (s.plain.mem r))) (s.plain.kept (key_of i))) (s.plain.seq (key_of i))
 flush_region r s tb i x = (elim (same_key (key_of i) r) as (λ b. same_key (key_of i) r ≡ b → HoldsCells i tb.schema.families (cond b (s.plain.stable r ++ take (s.plain.frozen r) (s.plain.mem r)) (s.plain.stable (key_of i))) (cond b (drop (s.plain.frozen r) (s.plain.mem r)) (s.plain.mem (key_of i)))
     (cond b (greatest (s.plain.kept r) (take (s.plain.frozen r) (s.plain.mem r))) (s.plain.kept (key_of i))) (s.plain.seq (key_of i))) [
-  | true ↦ λ d. subst (λ v. HoldsCells i tb.schema.families (s.plain.stable v ++ take (s.plain.frozen v) (s.plain.mem v)) (drop (s.plain.frozen v) (s.plain.mem v)) (greatest (s.plain.kept v) (take (s.plain.frozen v) (s.plain.mem v))) (s.plain.seq (key_of i))) (same_key-true (key_of i) r d)
-      (flush_cells i tb.schema.families (s.plain.stable (key_of i)) (s.plain.mem (key_of i)) (s.plain.kept (key_of i)) (s.plain.seq (key_of i)) (s.plain.frozen (key_of i)) x)
-  | false ↦ λ d. x
-]) refl
+      | true ↦ λ d. subst (λ v. HoldsCells i tb.schema.families (s.plain.stable v ++ take (s.plain.frozen v) (s.plain.mem v)) (drop (s.plain.frozen v) (s.plain.mem v)) (greatest (s.plain.kept v) (take (s.plain.frozen v) (s.plain.mem v))) (s.plain.seq (key_of i))) (same_key-true (key_of i) r d)
+          (flush_cells i tb.schema.families (s.plain.stable (key_of i)) (s.plain.mem (key_of i)) (s.plain.kept (key_of i)) (s.plain.seq (key_of i)) (s.plain.frozen (key_of i)) x)
+      | false ↦ λ d. x
+    ]) refl
 
 pub major_region : (r : RegionKey) (fs : List (List ℕ × ℕ)) (n : ℕ) (s : Parts) (tb : PlainTable) (i : RegionInfo) → Holds s.plain tb i
     → HoldsCells i tb.schema.families (cond (same_key (key_of i) r) (compacted fs n (s.plain.stable r)) (s.plain.stable (key_of i))) (s.plain.mem (key_of i)) (s.plain.kept (key_of i)) (s.plain.seq (key_of i))
@@ -167,9 +167,9 @@ load_region a r l cells more s tb i split g f k e m x = (elim (same_key (key_of 
       let num : (c : Cell) (n : Member c cells) → IsNumbered (of c n).base a c.seq s.plain.live s.plain.tables (s.plain.stable (home (of c n).base)) (s.plain.mem (home (of c n).base)) (s.plain.seq (home (of c n).base)) = λ c n. (let w = of c n in k.loads.at w.base a c.seq w.waiting w.named) in
       subst (λ v. HoldsCells i tb.schema.families (s.plain.stable v ++ cells) (s.plain.mem (key_of i)) (greatest (s.plain.kept v) cells) (s.plain.seq (key_of i))) q
       (load_cells i tb.schema.families (s.plain.stable (key_of i)) (s.plain.mem (key_of i)) (s.plain.kept (key_of i)) (s.plain.seq (key_of i)) cells
-        (λ c n. let y = f.each tb i split c (ap (get s.plain.tables) (sym (ap (λ (v : RegionKey). v.table) q)) ∙ e) m q n in let u = (num c n).drawn in let z = ap s.plain.seq ((of c n).region ∙ sym q) in record { versions = y.0; known = y.1; row = y.2; number = omega (arith, u, z) })
-        f.once
-        (λ c b n o. (num c n).no_file b (subst (λ v. Member b (s.plain.stable v)) (q ∙ sym (of c n).region) o))
-        (λ c b n o. (num c n).no_wait b (subst (λ v. Member b (s.plain.mem v)) (q ∙ sym (of c n).region) o)) x)
+      (λ c n. let y = f.each tb i split c (ap (get s.plain.tables) (sym (ap (λ (v : RegionKey). v.table) q)) ∙ e) m q n in let u = (num c n).drawn in let z = ap s.plain.seq ((of c n).region ∙ sym q) in record { versions = y.0; known = y.1; row = y.2; number = omega (arith, u, z) })
+      f.once
+      (λ c b n o. (num c n).no_file b (subst (λ v. Member b (s.plain.stable v)) (q ∙ sym (of c n).region) o))
+      (λ c b n o. (num c n).no_wait b (subst (λ v. Member b (s.plain.mem v)) (q ∙ sym (of c n).region) o)) x)
   | false ↦ λ d. x
 ]) refl
