@@ -54,7 +54,7 @@ use Rattle.core_beside.proofs.Pairs.{each-from, two-filter, two-zip}
 less_of : (a b : List ℕ) → is_below a b ≡ true → bytes_cmp a b ≡ Less
 less_of a b h = elim (bytes_cmp a b) as (λ o. is_lt o ≡ true → o ≡ Less) [ Less ↦ λ e. refl | Equal ↦ λ e. absurd (cc) | Greater ↦ λ e. absurd (cc) ] h
 
-below_trans : (a b c : List ℕ) → is_below a b ≡ true → is_below b c ≡ true → is_below a c ≡ true
+pub below_trans : (a b c : List ℕ) → is_below a b ≡ true → is_below b c ≡ true → is_below a c ≡ true
 below_trans a b c h k = ap is_lt (nat_list_cmp_total.trans a b c (less_of a b h) (less_of b c k))
 
 abbrev File : Type 0

@@ -48,7 +48,7 @@ use Rattle.core_contents.specs.ContentFacts.{IsCaptureOf}
 use Rattle.core_contents.specs.Faithful.{IsFaithful}
 use Rattle.core_contents.proofs.CopiesKept.{take_job}
 use Rattle.core_regions.specs.Cover.{IsCovered}
-use Rattle.core_regions.proofs.Held.{removed_held}
+use Rattle.core_regions.proofs.Held.{changer, other_held}
 use Rattle.core_cells.specs.Cells.{AreCellsOf, CapturesHold, CopyHolds, HasCells, HoldsCells, SnapshotsHold}
 
 -- ---- captures
@@ -73,29 +73,6 @@ captured_holds a r s stable kept o k f = record {
 pub ended_captures : (a : ℕ) (s : Parts) → HasCells s → CapturesHold s.plain.tables (λ w q. cond (w == a) None (s.plain.captures w q))
 ended_captures a s k = record { at = λ w q c tb i split e t m n. cond_cases (w == a) None (s.plain.captures w q) (Some c) e (λ d z. absurd (cc)) (λ d z. k.captures.at w q c tb i split z t m n) }
 
--- whoever changes a table takes no snapshot, and no other takes one of it
-not_taken : {P : Type 0} (s : Parts) (a w : ℕ) (job : Job) (name t : List ℕ) → IsSound s → job_of s.plain.live a ≡ Some job → HasHold s.plain.live w (holds.Take name t) → ((u n : List ℕ) → job ≡ jobs.Snapshot u n → ⊥)
-    → (x : Hold) → HasHold s.plain.live a x → excludes x (holds.Take name t) ≡ true → P
-not_taken {P} s a w job name t h j y n x z e = (elim (a == w) as (λ b. a == w ≡ b → P) [
-  | true ↦ λ d. absurd (n t name (some_is (sym j ∙ ap (job_of s.plain.live) (same_number a w d) ∙ hold_job s.plain.live w _ y) ∙ take_job name t _ (hold_fits s.plain.live w _ h.fits y)))
-  | false ↦ λ d. let q : true ≡ false = sym e ∙ holds_apart s.plain.live a w x (holds.Take name t) h.apart z y (apart d) in absurd (cc)
-]) refl
-  where
-    apart : (a == w) ≡ false → a ≡ w → ⊥
-    apart d i = grind (arith, nat_tests)
-
-other_than : (job : Option Job) (change : Event) (table : List ℕ) (a w : ℕ) (s : Parts) (name t : List ℕ) → job_of s.plain.live a ≡ job → IsChange job change table a s → IsSound s → HasHold s.plain.live w (holds.Take name t) → t ≡ table → ⊥
-other_than (Some (jobs.Create u fs n ks)) (event.Create schema regions) table a w s name t j z h y e = not_taken s a w _ name t h j y (λ v f i. absurd (cc)) (holds.Table table) (own_hold s a _ table h j (λ hs k. subst (λ x. Member (holds.Table x) hs) z.0 k)) (ap (same_bytes table) e ∙ same_bytes-self table)
-other_than (Some (jobs.Enable u)) (event.Enable v) table a w s name t j z h y e = not_taken s a w _ name t h j y (λ v f i. absurd (cc)) (holds.Table table) (own_hold s a _ table h j (λ hs k. subst (λ x. Member (holds.Table x) hs) z.0 k)) (ap (same_bytes table) e ∙ same_bytes-self table)
-other_than (Some (jobs.Disable u)) (event.Disable v) table a w s name t j z h y e = not_taken s a w _ name t h j y (λ v f i. absurd (cc)) (holds.Table table) (own_hold s a _ table h j (λ hs k. subst (λ x. Member (holds.Table x) hs) z.0 k)) (ap (same_bytes table) e ∙ same_bytes-self table)
-other_than (Some (jobs.Drop u)) (event.Drop v) table a w s name t j z h y e = not_taken s a w _ name t h j y (λ v f i. absurd (cc)) (holds.Table table) (own_hold s a _ table h j (λ hs k. subst (λ x. Member (holds.Table x) hs) z.0 k)) (ap (same_bytes table) e ∙ same_bytes-self table)
-other_than (Some (jobs.Clone n u)) (event.Clone c v regions) table a w s name t j z h y e = not_taken s a w _ name t h j y (λ v f i. absurd (cc)) (holds.Table table) (own_hold s a _ table h j (λ hs k. subst (λ x. Member (holds.Table x) hs) z.0 k)) (ap (same_bytes table) e ∙ same_bytes-self table)
-other_than (Some (jobs.Restore n)) (event.Restore c regions) table a w s name t j z h y e = not_taken s a w _ name t h j y (λ v f i. absurd (cc)) (holds.Table table) z.2 (ap (same_bytes table) e ∙ same_bytes-self table)
-other_than (Some (jobs.Split u row)) (event.Split v parent low high) table a w s name t j z h y e = not_taken s a w _ name t h j y (λ v f i. absurd (cc)) (holds.Region (key_at table parent)) z.2 (ap (same_bytes table) e ∙ same_bytes-self table)
-other_than (Some jobs.Janitor) (event.Remove v []) table a w s name t j z h y e = absurd (z.2 refl)
-other_than (Some jobs.Janitor) (event.Remove v (x ∷ xs)) table a w s name t j z h y e = not_taken s a w _ name t h j y (λ v f i. absurd (cc)) (holds.Region (key_at table x)) (removed_held s a table x (subst (Member x) z.1 (inl refl))) (ap (same_bytes table) e ∙ same_bytes-self table)
-other_than _ _ table a w s name t j z h y e = absurd z
-
 -- the core has captured it too
 captured_too : (made : Made) (r : RegionKey) (o : Option RegionFiles) (q : Option RegionCopy) (c : RegionCopy) → IsCaptureOf made r o q → q ≡ Some c → (l : RegionFiles) × (o ≡ Some l)
 captured_too made r (Some l) q c h e = (l, refl)
@@ -111,7 +88,8 @@ change_captures change table a s z h f k = record {
 }
   where
     apart : (x : Bool) (w : ℕ) (r : RegionKey) → ((name : List ℕ) × HasHold s.plain.live w (holds.Take name r.table)) → same_bytes r.table table ≡ x → same_bytes r.table table ≡ false
-    apart true w r y q = absurd (other_than (job_of s.plain.live a) change table a w s y.0 r.table refl z h y.1 (same_bytes-true r.table table q))
+    apart true w r y q = (let c = changer (job_of s.plain.live a) change table a s refl z h in
+        other_held s a w table (holds.Take y.0 r.table) h c y.1 (c.no_take y.0 r.table) (ap (λ t. excludes c.hold (holds.Take y.0 t)) (same_bytes-true r.table table q) ∙ c.not_take y.0))
     apart false w r y q = q
 
 -- ---- complete snapshots

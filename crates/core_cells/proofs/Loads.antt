@@ -52,7 +52,7 @@ use Rattle.core_sound.proofs.RegionsStay.{own_hold, region_moved}
 use Rattle.core_sound.proofs.TablesKept.{other_table}
 use Rattle.core_sound.proofs.Tests.{cond_cases, same_base-self, same_base-true, same_bytes-self, same_bytes-true, same_key-true, same_number}
 use Rattle.core_contents.proofs.ChangesLeave.{stays_alike}
-use Rattle.core_regions.proofs.Held.{removed_held}
+use Rattle.core_regions.proofs.Held.{changer, other_held}
 use Rattle.core_cells.specs.Cells.{BulkNumbered, HasCells, HoldsCells, IsNumbered, LoadsNumbered}
 use Rattle.core_cells.proofs.Held.{compacted_of, of_drop, of_take}
 use Rattle.core_cells.proofs.Numbers.{numbered, unnumbered}
@@ -145,37 +145,7 @@ load_new e r l cells more s b a n g k o w x h = (elim (same_key (home b) r) as (
 
 -- ---- a change of a table
 
--- whoever changes a table, or a region of it, is no load of it
-not_loading : {P : Type 0} (s : Parts) (a w : ℕ) (job : Job) (t : List ℕ) → IsSound s → job_of s.plain.live a ≡ Some job → HasHold s.plain.live w (holds.Load t) → ((u : List ℕ) (folder : List ℕ) → job ≡ jobs.Bulk u folder → ⊥)
-    → (x : Hold) → HasHold s.plain.live a x → excludes x (holds.Load t) ≡ true → P
-not_loading {P} s a w job t h j y n x z e = (elim (a == w) as (λ b. a == w ≡ b → P) [
-  | true ↦ λ d. absurd (load_job (some_is (sym (hold_job s.plain.live w _ y) ∙ ap (job_of s.plain.live) (sym (same_number a w d)) ∙ j)) (hold_fits s.plain.live w _ h.fits y))
-  | false ↦ λ d. let q : true ≡ false = sym e ∙ holds_apart s.plain.live a w x (holds.Load t) h.apart z y (apart d) in absurd (cc)
-]) refl
-  where
-    apart : (a == w) ≡ false → a ≡ w → ⊥
-    apart d i = grind (arith, nat_tests)
-
-    load_job : {g : Job} → g ≡ job → FitsJob (holds.Load t) g → ⊥
-    load_job i f = fit job (subst (FitsJob (holds.Load t)) i f) n
-      where
-        fit : (q : Job) → FitsJob (holds.Load t) q → ((u : List ℕ) (folder : List ℕ) → q ≡ jobs.Bulk u folder → ⊥) → ⊥
-        fit (jobs.Bulk u folder) m k = k u folder refl
-        fit _ m k = m
-
--- so a change is of another table than that of a file that waits for a load
-other_than : (job : Option Job) (change : Event) (table : List ℕ) (a w : ℕ) (s : Parts) (t : List ℕ) → job_of s.plain.live a ≡ job → IsChange job change table a s → IsSound s → HasHold s.plain.live w (holds.Load t) → t ≡ table → ⊥
-other_than (Some (jobs.Create u fs n ks)) (event.Create schema regions) table a w s t j z h y e = not_loading s a w _ t h j y (λ v f i. absurd (cc)) (holds.Table table) (own_hold s a _ table h j (λ hs k. subst (λ x. Member (holds.Table x) hs) z.0 k)) (ap (same_bytes table) e ∙ same_bytes-self table)
-other_than (Some (jobs.Enable u)) (event.Enable v) table a w s t j z h y e = not_loading s a w _ t h j y (λ v f i. absurd (cc)) (holds.Table table) (own_hold s a _ table h j (λ hs k. subst (λ x. Member (holds.Table x) hs) z.0 k)) (ap (same_bytes table) e ∙ same_bytes-self table)
-other_than (Some (jobs.Disable u)) (event.Disable v) table a w s t j z h y e = not_loading s a w _ t h j y (λ v f i. absurd (cc)) (holds.Table table) (own_hold s a _ table h j (λ hs k. subst (λ x. Member (holds.Table x) hs) z.0 k)) (ap (same_bytes table) e ∙ same_bytes-self table)
-other_than (Some (jobs.Drop u)) (event.Drop v) table a w s t j z h y e = not_loading s a w _ t h j y (λ v f i. absurd (cc)) (holds.Table table) (own_hold s a _ table h j (λ hs k. subst (λ x. Member (holds.Table x) hs) z.0 k)) (ap (same_bytes table) e ∙ same_bytes-self table)
-other_than (Some (jobs.Clone name u)) (event.Clone c v regions) table a w s t j z h y e = not_loading s a w _ t h j y (λ v f i. absurd (cc)) (holds.Table table) (own_hold s a _ table h j (λ hs k. subst (λ x. Member (holds.Table x) hs) z.0 k)) (ap (same_bytes table) e ∙ same_bytes-self table)
-other_than (Some (jobs.Restore name)) (event.Restore c regions) table a w s t j z h y e = not_loading s a w _ t h j y (λ v f i. absurd (cc)) (holds.Table table) z.2 (ap (same_bytes table) e ∙ same_bytes-self table)
-other_than (Some (jobs.Split u row)) (event.Split v parent low high) table a w s t j z h y e = not_loading s a w _ t h j y (λ v f i. absurd (cc)) (holds.Region (key_at table parent)) z.2 (ap (same_bytes table) e ∙ same_bytes-self table)
-other_than (Some jobs.Janitor) (event.Remove v []) table a w s t j z h y e = absurd (z.2 refl)
-other_than (Some jobs.Janitor) (event.Remove v (name ∷ names)) table a w s t j z h y e = not_loading s a w _ t h j y (λ v f i. absurd (cc)) (holds.Region (key_at table name)) (removed_held s a table name (subst (Member name) z.1 (inl refl))) (ap (same_bytes table) e ∙ same_bytes-self table)
-other_than _ _ table a w s t j z h y e = absurd z
-
+-- who changes a table is no load of it, so the change is of another table than that of a file that waits for a load
 pub change_new : (change : Event) (table : List ℕ) (e : ℕ) (s : Parts) (b : Base) (a n : ℕ) → IsChange (job_of s.plain.live e) change table e s → IsSound s → Numbered s b a n
     → IsNumbered b a n s.plain.live (tables_on change s.plain.snapshots s.plain.tables) ((plain.after change s.plain).stable (home b)) ((plain.after change s.plain).mem (home b)) ((plain.after change s.plain).seq (home b))
 change_new change table e s b a n z h k =
@@ -187,7 +157,8 @@ change_new change table e s b a n z h k =
     (record { load = k.load; region = region_moved s.plain.tables _ (home b) (sym (other_table (job_of s.plain.live e) change table e s b.table z d)) k.region; drawn = k.drawn; no_file = k.no_file; no_wait = k.no_wait })))
   where
     apart : (x : Bool) → same_bytes b.table table ≡ x → same_bytes b.table table ≡ false
-    apart true q = absurd (other_than (job_of s.plain.live e) change table e a s b.table refl z h k.load (same_bytes-true b.table table q))
+    apart true q = (let c = changer (job_of s.plain.live e) change table e s refl z h in
+        other_held s e a table (holds.Load b.table) h c k.load (c.no_load b.table) (ap (λ t. excludes c.hold (holds.Load t)) (same_bytes-true b.table table q) ∙ c.not_load))
     apart false q = q
 
 -- ---- a file that is placed

@@ -21,6 +21,7 @@ use Rattle.core_model.specs.Plans.{copied_regions, region_of, split_regions}
 use Rattle.core_sound.proofs.Sources.{each-member}
 use Rattle.core_sound.proofs.Tests.{same_bytes-self, same_bytes-true}
 use Rattle.core_opens.specs.Fits.{EachTwo}
+use Rattle.core_beside.proofs.Loaded.{below_trans}
 use Rattle.core_beside.proofs.Pairs.{each-from, two-filter, two-map}
 use Rattle.core_regions.specs.Cover.{Differ, infos_in}
 
@@ -177,12 +178,6 @@ pub differ_new : (regions : List RegionInfo) → EachTwo (λ (i j : RegionInfo).
 differ_new regions h = two-map (λ (i j : RegionInfo). encoded i ≢ encoded j) Apart (λ (r : RegionInfo). (r, false)) regions (λ i j m n k. k) h
 
 -- ---- splits of all rows
-
-less_of : (a b : List ℕ) → is_below a b ≡ true → bytes_cmp a b ≡ Less
-less_of a b h = elim (bytes_cmp a b) as (λ o. is_lt o ≡ true → o ≡ Less) [ Less ↦ λ e. refl | Equal ↦ λ e. absurd (cc) | Greater ↦ λ e. absurd (cc) ] h
-
-below_trans : (a b c : List ℕ) → is_below a b ≡ true → is_below b c ≡ true → is_below a c ≡ true
-below_trans a b c h k = ap is_lt (nat_list_cmp_total.trans a b c (less_of a b h) (less_of b c k))
 
 step_on : (a b : Bool) → (a ≡ true → b ≡ true) → cond (not a && b) 1 0 + cond (not b) 1 0 ≡ cond (not a) 1 0
 step_on true true h = refl

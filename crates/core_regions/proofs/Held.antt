@@ -1,7 +1,8 @@
 -- A change of a table leaves a region that another actor holds as it stands in its set, split or open.
-use Rattle.std.proofs.Common.{◌≡◌, ℕ, ◌||◌, Bool, true, false, not, cond, List, [], ◌∷◌, Option, Some, None, refl, sym, ap, ◌∙◌, subst, inl, inr}
+use Rattle.std.proofs.Common.{◌≡◌, ℕ, ◌||◌, ◌==◌, arith, Bool, true, false, not, cond, List, [], ◌∷◌, Option, Some, None, refl, sym, ap, ◌∙◌, subst, inl, inr}
 use Rattle.std.specs.List.{list_any}
 use Rattle.std.specs.FinMap.{get}
+use Rattle.std.proofs.lemmas.Bool.Decides.{nat_tests}
 use Rattle.cell_sight.specs.Member.{Member}
 use Rattle.cell_sight.proofs.Members.{in_filter}
 use Rattle.hb_cell.specs.Order.{same_bytes}
@@ -15,20 +16,21 @@ use Rattle.plain_model.specs.declared.job.Job.TheVariants as jobs
 use Rattle.plain_model.specs.declared.parts.Live.{Live}
 use Rattle.plain_model.specs.declared.parts.PlainTable.{PlainTable}
 use Rattle.plain_model.specs.declared.region_key.RegionKey.{RegionKey}
+use Rattle.plain_model.specs.Conflicts.{excludes}
 use Rattle.plain_model.specs.Keys.{encoded, key_at, key_of}
 use Rattle.plain_model.specs.LiveEvents.{job_of, live_of}
 use Rattle.plain_model.specs.Names.{Names, change, change_found}
 use Rattle.plain_model.specs.TableEvents.{is_one_of, tables_on, with_split, without_regions}
-use Rattle.core_model.specs.ActorFacts.{HasOwnHold}
+use Rattle.core_model.specs.ActorFacts.{FitsJob, HasOwnHold}
 use Rattle.core_model.specs.Actors.{HasHold}
 use Rattle.core_model.specs.SetGuards.{IsChange, held_regions, holds_in}
 use Rattle.core_model.specs.Sound.{IsSound}
 use Rattle.core_model.specs.State.{Parts}
-use Rattle.core_sound.proofs.HoldsFound.{holds_apart}
+use Rattle.core_sound.proofs.HoldsFound.{hold_fits, hold_job, holds_apart, some_is}
 use Rattle.core_sound.proofs.Lists.{member-map}
 use Rattle.core_sound.proofs.RegionsStay.{own_hold}
 use Rattle.core_sound.proofs.TablesKept.{other_table, put_this}
-use Rattle.core_sound.proofs.Tests.{same_bytes-self, same_bytes-true}
+use Rattle.core_sound.proofs.Tests.{same_bytes-self, same_bytes-true, same_number}
 use Rattle.core_sound.proofs.Vacant.{same_key-self}
 use Rattle.core_regions.specs.Cover.{IsListed}
 use Rattle.core_regions.proofs.Counted.{still_put}
@@ -133,3 +135,49 @@ listed_stays change table a w s i split z h d y l = (elim (same_bytes i.table ta
   | true ↦ λ k. stays_here (job_of s.plain.live a) change table a w s i split refl z h d y (same_bytes-true i.table table k) l
   | false ↦ λ k. record { table = l.table; stands = other_table (job_of s.plain.live a) change table a s i.table z k ∙ l.stands; listed = l.listed }
 ]) refl
+
+-- ---- what an actor holds that changes a table
+
+-- the table, or a region of it; and it neither loads nor takes a snapshot
+pub record Changer (s : Parts) (a : ℕ) (table : List ℕ) : Type 0 where
+  pub hold : Hold
+  pub held : HasHold s.plain.live a hold
+  pub not_load : excludes hold (holds.Load table) ≡ true
+  pub not_take : (name : List ℕ) → excludes hold (holds.Take name table) ≡ true
+  pub job : Job
+  pub is_job : job_of s.plain.live a ≡ Some job
+  pub no_load : (t : List ℕ) → FitsJob (holds.Load t) job → ⊥
+  pub no_take : (name t : List ℕ) → FitsJob (holds.Take name t) job → ⊥
+
+by_table : (s : Parts) (a : ℕ) (table : List ℕ) (job : Job) → job_of s.plain.live a ≡ Some job → HasHold s.plain.live a (holds.Table table) → ((t : List ℕ) → FitsJob (holds.Load t) job → ⊥) → ((name t : List ℕ) → FitsJob (holds.Take name t) job → ⊥) → Changer s a table
+by_table s a table job j x u v = record { hold = holds.Table table; held = x; not_load = same_bytes-self table; not_take = λ name. same_bytes-self table; job = job; is_job = j; no_load = u; no_take = v }
+
+by_region : (s : Parts) (a : ℕ) (table name : List ℕ) (job : Job) → job_of s.plain.live a ≡ Some job → HasHold s.plain.live a (holds.Region (key_at table name)) → ((t : List ℕ) → FitsJob (holds.Load t) job → ⊥) → ((name t : List ℕ) → FitsJob (holds.Take name t) job → ⊥) → Changer s a table
+by_region s a table name job j x u v = record { hold = holds.Region (key_at table name); held = x; not_load = same_bytes-self table; not_take = λ n. same_bytes-self table; job = job; is_job = j; no_load = u; no_take = v }
+
+own_table : (s : Parts) (a : ℕ) (table t : List ℕ) (job : Job) → IsSound s → job_of s.plain.live a ≡ Some job → t ≡ table → ((hs : List Hold) → HasOwnHold job hs → Member (holds.Table t) hs) → HasHold s.plain.live a (holds.Table table)
+own_table s a table t job h j e k = subst (λ x. HasHold s.plain.live a (holds.Table x)) e (own_hold s a job t h j k)
+
+pub changer : (job : Option Job) (change : Event) (table : List ℕ) (a : ℕ) (s : Parts) → job_of s.plain.live a ≡ job → IsChange job change table a s → IsSound s → Changer s a table
+changer (Some (jobs.Create t fs n ks)) (event.Create schema regions) table a s j z h = by_table s a table _ j (own_table s a table t _ h j z.0 (λ hs k. k)) (λ u f. f) (λ m u f. f)
+changer (Some (jobs.Enable t)) (event.Enable u) table a s j z h = by_table s a table _ j (own_table s a table t _ h j z.0 (λ hs k. k)) (λ v f. f) (λ m v f. f)
+changer (Some (jobs.Disable t)) (event.Disable u) table a s j z h = by_table s a table _ j (own_table s a table t _ h j z.0 (λ hs k. k)) (λ v f. f) (λ m v f. f)
+changer (Some (jobs.Drop t)) (event.Drop u) table a s j z h = by_table s a table _ j (own_table s a table t _ h j z.0 (λ hs k. k)) (λ v f. f) (λ m v f. f)
+changer (Some (jobs.Clone name t)) (event.Clone c u regions) table a s j z h = by_table s a table _ j (own_table s a table t _ h j z.0 (λ hs k. k)) (λ v f. f) (λ m v f. f)
+changer (Some (jobs.Restore name)) (event.Restore c regions) table a s j z h = by_table s a table _ j z.2 (λ v f. f) (λ m v f. f)
+changer (Some (jobs.Split t row)) (event.Split u parent low high) table a s j z h = by_region s a table parent _ j z.2 (λ v f. f) (λ m v f. f)
+changer (Some jobs.Janitor) (event.Remove t []) table a s j z h = absurd (z.2 refl)
+changer (Some jobs.Janitor) (event.Remove t (name ∷ names)) table a s j z h = by_region s a table name _ j (removed_held s a table name (subst (Member name) z.1 (inl refl))) (λ v f. f) (λ m v f. f)
+changer _ _ table a s j z h = absurd z
+
+-- another's hold that this one excludes is of another table
+pub other_held : {P : Type 0} (s : Parts) (a w : ℕ) (table : List ℕ) (h : Hold) → IsSound s → (c : Changer s a table) → HasHold s.plain.live w h → (FitsJob h c.job → ⊥) → excludes c.hold h ≡ true → P
+other_held {P} s a w table x h c y n e = (elim (a == w) as (λ b. a == w ≡ b → P) [
+  | true ↦ λ d. absurd (n (subst (FitsJob x) (job_is d) (hold_fits s.plain.live w x h.fits y)))
+  | false ↦ λ d. let q : true ≡ false = sym e ∙ holds_apart s.plain.live a w c.hold x h.apart c.held y (apart d) in absurd (cc)
+]) refl
+  where
+    apart : (a == w) ≡ false → a ≡ w → ⊥
+    apart d i = grind (arith, nat_tests)
+    job_is : (a == w) ≡ true → y.activity.job ≡ c.job
+    job_is d = some_is (sym (hold_job s.plain.live w x y) ∙ ap (job_of s.plain.live) (sym (same_number a w d)) ∙ c.is_job)
