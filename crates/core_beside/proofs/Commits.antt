@@ -13,7 +13,7 @@ use Rattle.core_model.specs.declared.entry.Entry.TheVariants.{Own, Link, Half}
 use Rattle.core_model.specs.declared.region_files.RegionFiles.{RegionFiles}
 use Rattle.core_model.specs.Actors.{IsRegion}
 use Rattle.core_model.specs.Entries.{base_of, is_half, is_in}
-use Rattle.core_model.specs.ListGuards.{AreOfDistinctFamilies, Compacts, Flushes, HasOther, IsFlushed, IsMerge, IsOutput, Merge, Waits, families_in, merged_entries, replaced, without}
+use Rattle.core_model.specs.ListGuards.{AreOfDistinctFamilies, Compacts, Flushes, IsFlushed, IsMerge, IsOutput, Merge, Waits, families_in, merged_entries, replaced, without}
 use Rattle.core_model.specs.Plans.{copy_of, half_of}
 use Rattle.core_model.specs.Recipes.{frozen_cells}
 use Rattle.core_model.specs.State.{Parts}
@@ -21,7 +21,7 @@ use Rattle.core_sound.proofs.Sources.{each-member, map-member, merged-member, zi
 use Rattle.core_sound.proofs.Tests.{same_bytes-self}
 use Rattle.core_contents.proofs.Counts.{family-once}
 use Rattle.core_opens.specs.Fits.{EachTwo, MayStandBeside}
-use Rattle.core_beside.specs.Apart.{AreUnused, IsUsed, Uses, listed}
+use Rattle.core_beside.specs.Apart.{AreUnused, listed}
 use Rattle.core_beside.proofs.Pairs.{each-from, two-append, two-filter, two-map, two-once, two-zip}
 
 abbrev pub AreBeside : List Entry → Type 0

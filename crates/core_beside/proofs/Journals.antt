@@ -1,30 +1,26 @@
 -- So do the entries of journals.
-use Rattle.std.proofs.Common.{◌≡◌, ℕ, ◌+◌, Bool, true, false, List, [], ◌∷◌, take, Option, Some, None, refl, sym, ap, ◌∙◌, subst, inl, inr}
-use Rattle.std.specs.FinMap.{from_entries, get}
-use Rattle.cell_sight.specs.Member.{Member}
+use Rattle.std.proofs.Common.{ℕ, ◌+◌, Bool, true, false, List, [], ◌∷◌, take, sym, ◌∙◌, subst, inl, inr}
 use Rattle.ns_tree.specs.Tree.{Tree}
 use Rattle.plain_model.specs.declared.region_key.RegionKey.{RegionKey}
 use Rattle.core_model.specs.declared.journal.JournalEntry.{JournalEntry}
-use Rattle.core_model.specs.declared.found.Found.{Found}
 use Rattle.core_model.specs.declared.opening.Opening.{Opening}
 use Rattle.core_model.specs.declared.region_files.RegionFiles.{RegionFiles}
-use Rattle.core_model.specs.Actors.{InSet, IsRegion}
-use Rattle.core_model.specs.Allows.{AllowsAll, AllowsEntry, AllowsFrom}
-use Rattle.core_model.specs.Disk.{Disk, disk_of, tmps_of}
+use Rattle.core_model.specs.Actors.{InSet}
+use Rattle.core_model.specs.Allows.{AllowsEntry, AllowsFrom}
+use Rattle.core_model.specs.Disk.{Disk, disk_of}
 use Rattle.core_model.specs.Opened.{found_list, opened}
 use Rattle.core_model.specs.Replay.{after, begun, replay, replay_from, unless}
 use Rattle.core_model.specs.Replay as replay
-use Rattle.core_model.specs.Sound.{IsSound, IsSoundState}
-use Rattle.core_model.specs.State.{Parts, State}
+use Rattle.core_model.specs.Sound.{IsSoundState}
+use Rattle.core_model.specs.State.{State}
 use Rattle.core_sound.proofs.Journals.{HasFew, allowed_other, allows_front, entry_kept, few-begun, few_after, sound-begun}
-use Rattle.core_contents.specs.Faithful.{IsFaithful, IsFaithfulState}
+use Rattle.core_contents.specs.Faithful.{IsFaithfulState}
 use Rattle.core_contents.proofs.Journals.{entry_faithful}
 use Rattle.core_recovers.specs.Reading.{IsIn}
-use Rattle.core_opens.specs.Begins.{CanBegin, IsFound}
-use Rattle.core_opens.specs.Valid.{IsValid}
+use Rattle.core_opens.specs.Begins.{CanBegin}
 use Rattle.core_opens.proofs.Opens.{begins_valid}
 use Rattle.core_opens.proofs.Read.{snapshot_is, table_is, tables_in}
-use Rattle.core_beside.specs.Apart.{IsBeside, IsBesideState, LeadsToBeside, StandBeside}
+use Rattle.core_beside.specs.Apart.{IsBeside, IsBesideState, LeadsToBeside}
 use Rattle.core_beside.proofs.Commits.{AreBeside}
 use Rattle.core_beside.proofs.Kept.{beside_kept}
 

@@ -1,10 +1,7 @@
 -- Each step keeps that the entries of regions may stand beside each other.
-use Rattle.std.proofs.Common.{◌≡◌, ◌≤◌, ℕ, ◌&&◌, ◌==◌, Bool, true, false, cond, List, [], ◌∷◌, Option, Some, None, refl, sym, ap, ◌∙◌, subst, inl, inr}
-use Rattle.std.specs.Prelude.{option_map}
-use Rattle.std.specs.FinMap.{get}
+use Rattle.std.proofs.Common.{◌≡◌, ℕ, ◌&&◌, ◌==◌, true, false, cond, List, Some, None, refl, sym, ◌∙◌, subst, inl, inr}
 use Rattle.cell_sight.specs.Member.{Member}
 use Rattle.hb_cell.specs.declared.cell.Cell.{Cell}
-use Rattle.hb_records.specs.declared.region_info.RegionInfo.{RegionInfo}
 use Rattle.plain_model.specs.declared.region_key.RegionKey.{RegionKey}
 use Rattle.plain_model.specs.Found.{open_in}
 use Rattle.plain_model.specs.Keys.{key_of, same_key}
@@ -24,7 +21,6 @@ use Rattle.core_model.specs.Allows.{Allows}
 use Rattle.core_model.specs.Entries.{no_list}
 use Rattle.core_model.specs.FileChanges.{lists_by, snapshots_by}
 use Rattle.core_model.specs.ListGuards.{AllowsList, Loads}
-use Rattle.core_model.specs.Replay.{after}
 use Rattle.core_model.specs.SnapshotGuards as snapshots
 use Rattle.core_model.specs.Sound.{IsSound}
 use Rattle.core_model.specs.State.{Parts}
@@ -37,7 +33,6 @@ use Rattle.core_sound.proofs.Tests.{cond_cases, same_key-true}
 use Rattle.core_sound.proofs.Vacant.{each-cases}
 use Rattle.core_contents.specs.Faithful.{IsFaithful}
 use Rattle.core_opens.proofs.Entered.{from_filter}
-use Rattle.core_opens.specs.Fits.{MayStandBeside}
 use Rattle.core_beside.specs.Apart.{IsBeside, KeepsBeside, StandBeside}
 use Rattle.core_beside.proofs.Commits.{AreBeside, compact_beside, flush_beside, joined_beside, waits_apart}
 use Rattle.core_beside.proofs.Loaded.{added_differ, loads_kept, placed_kept}

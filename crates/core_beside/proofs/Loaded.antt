@@ -3,7 +3,7 @@ use Rattle.std.proofs.Common.{◌≡◌, ◌≢◌, ◌⊎◌, ◌≤◌, ℕ, �
 use Rattle.std.specs.Ordering.{is_lt}
 use Rattle.std.specs.declared.cmp.Ordering.TheVariants.{Less, Equal, Greater}
 use Rattle.std.specs.Cmp.Lexicographic.{nat_list_cmp_total}
-use Rattle.std.specs.List.{AllZip, AllByRecursion}
+use Rattle.std.specs.List.{AllByRecursion}
 use Rattle.std.proofs.lemmas.List.{append_cancel_left}
 use Rattle.cell_sight.specs.Member.{Member}
 use Rattle.cell_sight.proofs.Versions.{tied_bytes}
@@ -16,7 +16,6 @@ use Rattle.plain_model.specs.declared.job.Job.{Job}
 use Rattle.plain_model.specs.declared.job.Job.TheVariants as jobs
 use Rattle.plain_model.specs.declared.region_key.RegionKey.{RegionKey}
 use Rattle.core_model.specs.declared.entry.Entry.{Entry}
-use Rattle.core_model.specs.declared.recipe.Recipe.{Recipe}
 use Rattle.core_model.specs.declared.recipe.Recipe.TheVariants as recipes
 use Rattle.core_model.specs.declared.region_files.RegionFiles.{RegionFiles}
 use Rattle.core_model.specs.declared.step.Started.TheVariants as started
@@ -34,7 +33,6 @@ use Rattle.core_model.specs.FileFacts.{IsDrawn}
 use Rattle.core_model.specs.FileGuards.{next_name}
 use Rattle.core_model.specs.ListGuards.{Loads}
 use Rattle.core_model.specs.Ops.{op_of}
-use Rattle.core_model.specs.Replay.{after}
 use Rattle.core_model.specs.Site.{Live, Staged, Tmp, site_text}
 use Rattle.core_model.specs.Sound.{IsSound}
 use Rattle.core_model.specs.StartGuards.{Ascends, AreStaged, is_file_before}
@@ -43,11 +41,11 @@ use Rattle.core_sound.proofs.Draws.{other_digits}
 use Rattle.core_sound.proofs.HoldsFound.{some_is}
 use Rattle.core_sound.proofs.Lists.{member-append, or_left, or_right, either}
 use Rattle.core_sound.proofs.NameFacts.{store_name}
-use Rattle.core_sound.proofs.NamesKept.{IsNewTmp, IsLeft, drawn_after, names_kept, next_stem, piece_stem, placed_stem, staged_stem, tmp_cases}
+use Rattle.core_sound.proofs.NamesKept.{IsNewTmp, drawn_after, names_kept, next_stem, piece_stem, placed_stem, staged_stem, tmp_cases}
 use Rattle.core_sound.proofs.Tests.{both_left, both_right, cond_cases, same_base-self, same_bytes-self, same_bytes-true, same_number}
 use Rattle.core_opens.specs.Fits.{EachTwo}
 use Rattle.core_beside.specs.Apart.{ArePlacedOnce, LoadsAscend}
-use Rattle.core_beside.proofs.Pairs.{each-from, two-filter, two-zip}
+use Rattle.core_beside.proofs.Pairs.{two-filter, two-zip}
 
 -- ---- files in order differ
 

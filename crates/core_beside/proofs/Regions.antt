@@ -1,6 +1,6 @@
 -- The entries of the regions that a change of a table adds may stand beside each other.
-use Rattle.std.proofs.Common.{◌≡◌, ◌≢◌, ℕ, true, false, List, [], ◌∷◌, Option, Some, None, refl, sym, ap, ◌∙◌, subst, inl, inr}
-use Rattle.std.specs.Prelude.{IsSome, map}
+use Rattle.std.proofs.Common.{◌≡◌, ◌≢◌, ℕ, true, false, List, [], ◌∷◌, Option, Some, None, refl, sym, ◌∙◌, subst, inl, inr}
+use Rattle.std.specs.Prelude.{IsSome}
 use Rattle.std.specs.List.{AllZip, AllByRecursion}
 use Rattle.std.specs.FinMap.{get}
 use Rattle.cell_sight.specs.Member.{Member}
@@ -12,12 +12,9 @@ use Rattle.plain_model.specs.declared.job.Job.TheVariants as jobs
 use Rattle.plain_model.specs.declared.region_key.RegionKey.{RegionKey}
 use Rattle.plain_model.specs.Keys.{key_of}
 use Rattle.plain_model.specs.LiveEvents.{job_of}
-use Rattle.core_model.specs.declared.entry.Entry.{Entry}
-use Rattle.core_model.specs.declared.snapshot.CopiedRegion.{CopiedRegion}
 use Rattle.core_model.specs.declared.snapshot.Snapshot.{Snapshot}
 use Rattle.core_model.specs.ActorFacts as actors
 use Rattle.core_model.specs.Entries.{base_of}
-use Rattle.core_model.specs.Plans.{copy_of, half_of}
 use Rattle.core_model.specs.SetGuards.{IsBuilt, IsChange, built_by}
 use Rattle.core_model.specs.Sound.{IsSound}
 use Rattle.core_model.specs.State.{Parts}

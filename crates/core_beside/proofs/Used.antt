@@ -1,13 +1,11 @@
 -- A base that waits to be listed is used by nothing.
-use Rattle.std.proofs.Common.{◌≡◌, ◌⊎◌, ◌≤◌, ℕ, ◌++◌, ◌||◌, ◌&&◌, ◌==◌, Bool, true, false, cond, List, [], ◌∷◌, Option, Some, None, refl, sym, ap, ◌∙◌, subst, inl, inr}
+use Rattle.std.proofs.Common.{◌≡◌, ◌⊎◌, ◌≤◌, ℕ, ◌++◌, ◌&&◌, ◌==◌, true, false, cond, List, [], ◌∷◌, Option, Some, None, refl, sym, ap, ◌∙◌, subst, inl, inr}
 use Rattle.std.specs.Prelude.{map}
 use Rattle.std.specs.FinMap.{get}
 use Rattle.cell_sight.specs.Member.{Member}
 use Rattle.hb_cell.specs.declared.cell.Cell.{Cell}
 use Rattle.hb_layout.specs.declared.base.Base.{Base}
-use Rattle.hb_records.specs.declared.region_info.RegionInfo.{RegionInfo}
 use Rattle.ns_tree.specs.declared.file.FileState.{FileState}
-use Rattle.plain_model.specs.declared.event.Event.{Event}
 use Rattle.plain_model.specs.declared.job.Job.{Job}
 use Rattle.plain_model.specs.declared.job.Job.TheVariants as jobs
 use Rattle.plain_model.specs.declared.region_key.RegionKey.{RegionKey}
@@ -30,7 +28,6 @@ use Rattle.core_model.specs.Allows.{Allows}
 use Rattle.core_model.specs.Disk.{live_of, archived_of, is_live, is_archived}
 use Rattle.core_model.specs.Entries.{base_of, has_own, is_own, is_own_of}
 use Rattle.core_model.specs.FileChanges.{lists_by, snapshots_by}
-use Rattle.core_model.specs.FileFacts.{IsDrawn}
 use Rattle.core_model.specs.Keys.{same_base}
 use Rattle.core_model.specs.ListGuards.{AllowsList, Flushes}
 use Rattle.core_model.specs.Named as named
@@ -40,7 +37,7 @@ use Rattle.core_model.specs.Replay.{after}
 use Rattle.core_model.specs.Site.{is_store_name}
 use Rattle.core_model.specs.Sound.{IsSound}
 use Rattle.core_model.specs.State.{Parts}
-use Rattle.core_model.specs.TableChanges.{tables_by, added_by}
+use Rattle.core_model.specs.TableChanges.{tables_by}
 use Rattle.core_sound.proofs.Copied.{copied-member}
 use Rattle.core_sound.proofs.Draws.{other_digits}
 use Rattle.core_sound.proofs.Lists.{get-put, get-taken, member-append, or_left, or_right}

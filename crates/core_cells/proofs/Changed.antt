@@ -1,6 +1,6 @@
 -- A change of a table keeps that regions hold their cells.
-use Rattle.std.proofs.Common.{◌≡◌, ◌≢◌, ◌⊎◌, ◌≤◌, ℕ, ◌&&◌, ◌||◌, Bool, true, false, not, cond, List, [], ◌∷◌, Option, Some, None, refl, sym, ap, ◌∙◌, subst, inl, inr}
-use Rattle.std.specs.Prelude.{map, option_map}
+use Rattle.std.proofs.Common.{◌≡◌, ◌≢◌, ◌⊎◌, ℕ, ◌&&◌, ◌||◌, Bool, true, false, not, cond, List, [], ◌∷◌, Option, Some, None, refl, sym, ap, ◌∙◌, subst, inl, inr}
+use Rattle.std.specs.Prelude.{option_map}
 use Rattle.std.specs.List.{AllZip}
 use Rattle.std.specs.FinMap.{get, insert}
 use Rattle.cell_sight.specs.Member.{Member}
@@ -18,17 +18,14 @@ use Rattle.plain_model.specs.declared.parts.PlainTable.{PlainTable}
 use Rattle.plain_model.specs.declared.parts.RegionCopy.{RegionCopy}
 use Rattle.plain_model.specs.declared.region_key.RegionKey.{RegionKey}
 use Rattle.plain_model.specs.After as plain
-use Rattle.plain_model.specs.CellEvents.{cells_by_key, copies_of, each_with, from, numbers_by_key, under}
+use Rattle.plain_model.specs.CellEvents.{cells_by_key, copies_of, from, numbers_by_key, under}
 use Rattle.plain_model.specs.Keys.{encoded, key_at, key_of, same_key, set_at, set_each}
 use Rattle.plain_model.specs.Laws.{LeavesRegion}
 use Rattle.plain_model.specs.LiveEvents.{job_of}
-use Rattle.plain_model.specs.Plain.{Plain}
 use Rattle.plain_model.specs.Rows.{holds_row, is_before_end}
-use Rattle.plain_model.specs.TableEvents.{is_one_of, schema_for, table_of, tables_on, with_copy, with_region, with_restored, with_split, without_regions}
+use Rattle.plain_model.specs.TableEvents.{is_one_of, schema_for, table_of, tables_on, with_copy, with_region, with_restored, with_split}
 use Rattle.core_model.specs.declared.snapshot.CopiedRegion.{CopiedRegion}
-use Rattle.core_model.specs.declared.snapshot.Snapshot.{Snapshot}
 use Rattle.core_model.specs.Actors.{InSet, IsRegion}
-use Rattle.core_model.specs.Entries.{Made}
 use Rattle.core_model.specs.SetGuards.{IsChange}
 use Rattle.core_model.specs.Sound.{IsSound}
 use Rattle.core_model.specs.State.{Parts}
@@ -37,17 +34,17 @@ use Rattle.core_sound.proofs.Lists.{get-taken}
 use Rattle.core_sound.proofs.Sources.{each-member, map-member}
 use Rattle.core_sound.proofs.TablesKept.{other_table, put_this}
 use Rattle.core_sound.proofs.Tests.{same_bytes-true, same_key-true}
-use Rattle.core_sound.proofs.Vacant.{each-new, same_key-self}
+use Rattle.core_sound.proofs.Vacant.{each-new}
 use Rattle.core_contents.specs.ContentFacts.{Copies}
 use Rattle.core_contents.specs.Faithful.{IsFaithful}
 use Rattle.core_contents.specs.PlanFacts.{IsPlan}
 use Rattle.core_contents.proofs.ChangesLeave.{stays_alike}
 use Rattle.core_contents.proofs.Tools.{set_here}
 use Rattle.core_opens.specs.Fits.{EachTwo}
-use Rattle.core_regions.specs.Cover.{AreNewRegions, CopiesBounds, HasBounds, IsCovered, table_in_copy}
+use Rattle.core_regions.specs.Cover.{CopiesBounds, HasBounds, IsCovered, table_in_copy}
 use Rattle.core_regions.proofs.Counted.{of_put}
 use Rattle.core_regions.proofs.Held.{changed_from}
-use Rattle.core_cells.specs.Cells.{AreCellsOf, CopyHolds, HasCells, HoldsCells, IsCellOf, RegionsHold}
+use Rattle.core_cells.specs.Cells.{AreCellsOf, CopyHolds, HasCells, HoldsCells}
 use Rattle.core_cells.proofs.Held.{copied_cells, high_cells, low_cells, no_cells}
 use Rattle.core_cells.proofs.Regions.{Holds}
 

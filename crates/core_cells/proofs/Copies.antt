@@ -1,16 +1,13 @@
 -- Each step keeps that captures and complete snapshots hold their cells.
-use Rattle.std.proofs.Common.{◌≡◌, ◌≢◌, ◌⊎◌, ◌≤◌, ℕ, ◌+◌, ◌&&◌, ◌==◌, Bool, true, false, cond, List, [], ◌∷◌, Option, Some, None, refl, sym, ap, ◌∙◌, subst, inl, inr, arith}
-use Rattle.std.specs.Prelude.{IsSome, filter_map, is_some, map, option_map}
-use Rattle.std.specs.List.{AllZip, AllByRecursion, cons_option}
+use Rattle.std.proofs.Common.{◌≡◌, ℕ, ◌&&◌, ◌==◌, Bool, true, false, cond, List, [], ◌∷◌, Option, Some, None, refl, sym, ap, ◌∙◌, subst, inl, inr}
+use Rattle.std.specs.Prelude.{IsSome, filter_map, option_map}
+use Rattle.std.specs.List.{AllZip, cons_option}
 use Rattle.std.specs.FinMap.{get, insert, remove}
-use Rattle.std.proofs.lemmas.Bool.Decides.{nat_tests}
 use Rattle.cell_sight.specs.Member.{Member}
 use Rattle.hb_cell.specs.declared.cell.Cell.{Cell}
 use Rattle.hb_cell.specs.Order.{same_bytes}
 use Rattle.hb_records.specs.declared.region_info.RegionInfo.{RegionInfo}
 use Rattle.plain_model.specs.declared.event.Event.{Event}
-use Rattle.plain_model.specs.declared.event.Event.TheVariants as event
-use Rattle.plain_model.specs.declared.hold.Hold.{Hold}
 use Rattle.plain_model.specs.declared.hold.Hold.TheVariants as holds
 use Rattle.plain_model.specs.declared.job.Job.{Job}
 use Rattle.plain_model.specs.declared.job.Job.TheVariants as jobs
@@ -20,36 +17,30 @@ use Rattle.plain_model.specs.declared.parts.RegionCopy.{RegionCopy}
 use Rattle.plain_model.specs.declared.region_key.RegionKey.{RegionKey}
 use Rattle.plain_model.specs.Conflicts.{excludes}
 use Rattle.plain_model.specs.Found.{families_of_table, open_in, regions_in}
-use Rattle.plain_model.specs.Keys.{key_at, key_of, same_key}
+use Rattle.plain_model.specs.Keys.{key_of, same_key}
 use Rattle.plain_model.specs.LiveEvents.{copy_of, job_of}
-use Rattle.plain_model.specs.Names.{Names}
 use Rattle.plain_model.specs.Rows.{open_of}
 use Rattle.plain_model.specs.SnapshotEvents.{completed, with_capture, with_snapshot}
 use Rattle.plain_model.specs.SnapshotEvents as plain
 use Rattle.plain_model.specs.TableEvents.{tables_on}
 use Rattle.core_model.specs.declared.region_files.RegionFiles.{RegionFiles}
-use Rattle.core_model.specs.declared.snapshot.CopiedRegion.{CopiedRegion}
 use Rattle.core_model.specs.declared.snapshot.Snapshot.{Snapshot}
-use Rattle.core_model.specs.ActorFacts.{FitsJob}
 use Rattle.core_model.specs.Actors.{HasHold}
 use Rattle.core_model.specs.Entries.{Made}
 use Rattle.core_model.specs.SetGuards.{IsChange}
-use Rattle.core_model.specs.SnapshotGuards.{CanComplete, copied, snapshot_of}
+use Rattle.core_model.specs.SnapshotGuards.{CanComplete, copied}
 use Rattle.core_model.specs.Sound.{IsSound}
 use Rattle.core_model.specs.State.{Parts}
-use Rattle.core_sound.proofs.HoldsFound.{hold_fits, hold_job, holds_apart, some_is}
-use Rattle.core_sound.proofs.Lists.{get-put, get-taken, map_some, or_left}
-use Rattle.core_sound.proofs.RegionsStay.{own_hold}
+use Rattle.core_sound.proofs.HoldsFound.{hold_fits, hold_job, some_is}
+use Rattle.core_sound.proofs.Lists.{get-taken}
 use Rattle.core_sound.proofs.Sources.{open-member}
-use Rattle.core_sound.proofs.TablesKept.{other_table, put_this, put_other, taken_other}
-use Rattle.core_sound.proofs.Tests.{both_left, both_right, cond_cases, same_bytes-self, same_bytes-true, same_key-true, same_number}
-use Rattle.core_bytes.specs.Written.{IsWritten}
+use Rattle.core_sound.proofs.TablesKept.{other_table, put_this, put_other}
+use Rattle.core_sound.proofs.Tests.{both_right, cond_cases, same_bytes-true, same_key-true}
 use Rattle.core_contents.specs.ContentFacts.{IsCaptureOf}
 use Rattle.core_contents.specs.Faithful.{IsFaithful}
 use Rattle.core_contents.proofs.CopiesKept.{take_job}
-use Rattle.core_regions.specs.Cover.{IsCovered}
 use Rattle.core_regions.proofs.Held.{changer, other_held}
-use Rattle.core_cells.specs.Cells.{AreCellsOf, CapturesHold, CopyHolds, HasCells, HoldsCells, SnapshotsHold}
+use Rattle.core_cells.specs.Cells.{AreCellsOf, CapturesHold, CopyHolds, HasCells, SnapshotsHold}
 
 -- ---- captures
 

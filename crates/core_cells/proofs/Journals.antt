@@ -1,17 +1,14 @@
 -- So do the entries of journals.
-use Rattle.std.proofs.Common.{◌≡◌, ◌≢◌, ◌≤◌, ℕ, zero, suc, ◌+◌, Bool, true, false, List, [], ◌∷◌, take, Option, Some, None, refl, sym, ap, ◌∙◌, subst, inl, inr}
+use Rattle.std.proofs.Common.{◌≡◌, ℕ, zero, suc, ◌+◌, Bool, true, false, List, [], ◌∷◌, take, Some, refl, sym, ap, ◌∙◌, subst, inl, inr}
 use Rattle.std.specs.Prelude.{map, option_map}
 use Rattle.std.specs.List.{AllZip}
 use Rattle.std.specs.FinMap.{from_entries, get}
 use Rattle.cell_sight.specs.Member.{Member}
-use Rattle.hb_cell.specs.declared.cell.Cell.{Cell}
 use Rattle.hb_cell.specs.Order.{bytes_cmp}
-use Rattle.hb_layout.specs.declared.base.Base.{Base}
 use Rattle.hb_records.specs.declared.region_info.RegionInfo.{RegionInfo}
 use Rattle.ns_tree.specs.Tree.{Tree}
 use Rattle.plain_model.specs.declared.parts.PlainSnapshot.{PlainSnapshot}
 use Rattle.plain_model.specs.declared.parts.PlainTable.{PlainTable}
-use Rattle.plain_model.specs.declared.region_key.RegionKey.{RegionKey}
 use Rattle.plain_model.specs.Keys.{key_of}
 use Rattle.core_model.specs.declared.entry.Entry.{Entry}
 use Rattle.core_model.specs.declared.journal.JournalEntry.{JournalEntry}
@@ -21,7 +18,7 @@ use Rattle.core_model.specs.declared.snapshot.CopiedRegion.{CopiedRegion}
 use Rattle.core_model.specs.declared.snapshot.Snapshot.{Snapshot}
 use Rattle.core_model.specs.declared.step.Step.{Step}
 use Rattle.core_model.specs.declared.step.Step.TheVariants as step
-use Rattle.core_model.specs.Allows.{AllowsAll, AllowsEntry, AllowsFrom, IsEnding}
+use Rattle.core_model.specs.Allows.{AllowsEntry, AllowsFrom, IsEnding}
 use Rattle.core_model.specs.Disk.{disk_of}
 use Rattle.core_model.specs.Entries.{Made, cells_in}
 use Rattle.core_model.specs.Opened as opened
@@ -45,7 +42,7 @@ use Rattle.core_opens.proofs.Opens.{begins_valid}
 use Rattle.core_opens.proofs.Read.{snapshot_is, table_is, tables_in}
 use Rattle.core_regions.specs.Cover.{HaveLimits, HasLimits, IsCoveredState}
 use Rattle.core_regions.proofs.Journals.{entry_covered, entry_written, limits_front, opened_covered}
-use Rattle.core_cells.specs.Cells.{AreCellsOf, AreOnce, CopyHolds, HasCells, HasCellsState, LeadsToCells, LoadFrom, LoadsFit}
+use Rattle.core_cells.specs.Cells.{AreCellsOf, CopyHolds, HasCells, HasCellsState, LeadsToCells, LoadFrom, LoadsFit}
 use Rattle.core_cells.proofs.Held.{copied_cells, once-two}
 use Rattle.core_cells.proofs.Kept.{cells_kept}
 

@@ -1,5 +1,5 @@
 -- Each step keeps that regions, captures and snapshots hold their cells.
-use Rattle.std.proofs.Common.{◌≡◌, ◌≤◌, ℕ, ◌+◌, ◌++◌, ◌==◌, Bool, true, false, cond, List, [], ◌∷◌, Option, Some, None, refl, sym, ap, ◌∙◌, subst, inl, inr}
+use Rattle.std.proofs.Common.{◌≡◌, ℕ, ◌+◌, ◌==◌, Bool, true, false, cond, List, [], Option, Some, None, refl, sym, ap, ◌∙◌, subst}
 use Rattle.std.specs.Prelude.{Ok, unwrap_or}
 use Rattle.std.specs.FinMap.{get}
 use Rattle.cell_sight.specs.Member.{Member}
@@ -10,12 +10,10 @@ use Rattle.plain_model.specs.declared.event.Event.{Event}
 use Rattle.plain_model.specs.declared.event.Event.TheVariants as event
 use Rattle.plain_model.specs.declared.job.Job.{Job}
 use Rattle.plain_model.specs.declared.job.Job.TheVariants as jobs
-use Rattle.plain_model.specs.declared.parts.Live.{Live}
 use Rattle.plain_model.specs.declared.parts.PlainTable.{PlainTable}
 use Rattle.plain_model.specs.declared.region_key.RegionKey.{RegionKey}
 use Rattle.plain_model.specs.After.{after_all}
 use Rattle.plain_model.specs.CellEvents.{families_in}
-use Rattle.plain_model.specs.Keys.{key_at, key_of}
 use Rattle.plain_model.specs.LiveEvents.{captures_on, region_at, without}
 use Rattle.plain_model.specs.Plain.{Plain}
 use Rattle.plain_model.specs.TableEvents.{tables_on}
@@ -23,17 +21,14 @@ use Rattle.core_model.specs.declared.region_files.RegionFiles.{RegionFiles}
 use Rattle.core_model.specs.declared.step.Started.TheVariants as started
 use Rattle.core_model.specs.declared.step.Step.{Step}
 use Rattle.core_model.specs.declared.step.Step.TheVariants as step
-use Rattle.core_model.specs.declared.targets.MoveFrom.{MoveFrom}
 use Rattle.core_model.specs.declared.targets.MoveFrom.TheVariants as moves
 use Rattle.core_model.specs.declared.targets.Why.TheVariants as why
 use Rattle.core_model.specs.ActorChanges.{placed_by, unless_by, waiting_by}
-use Rattle.core_model.specs.Actors.{HasHold}
 use Rattle.core_model.specs.Allows.{Allows}
 use Rattle.core_model.specs.Entries.{has_own, seq_of}
 use Rattle.core_model.specs.Events.{events_of}
 use Rattle.core_model.specs.FileChanges.{snapshots_by}
 use Rattle.core_model.specs.Keys.{home}
-use Rattle.core_model.specs.Replay.{after}
 use Rattle.core_model.specs.SetGuards.{IsChange}
 use Rattle.core_model.specs.Sound.{IsSound}
 use Rattle.core_model.specs.State.{Parts, Placed}

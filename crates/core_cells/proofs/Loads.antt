@@ -1,9 +1,7 @@
 -- Each step keeps that the numbers of files that wait for a load are new.
-use Rattle.std.proofs.Common.{◌≡◌, ◌≢◌, ◌⊎◌, ◌≤◌, ◌<◌, ◌^◌, ℕ, ◌+◌, ◌==◌, Bool, true, false, cond, List, [], ◌∷◌, ◌++◌, take, drop, Option, Some, None, refl, sym, ap, ◌∙◌, subst, inl, inr, arith}
+use Rattle.std.proofs.Common.{◌≡◌, ◌⊎◌, ℕ, ◌+◌, ◌==◌, Bool, true, false, cond, List, [], ◌∷◌, ◌++◌, take, drop, Option, Some, None, refl, sym, ap, ◌∙◌, subst, inl, inr, arith}
 use Rattle.std.specs.Prelude.{map}
 use Rattle.std.proofs.lemmas.List.{append_assoc}
-use Rattle.std.proofs.lemmas.Bool.Decides.{nat_tests}
-use Rattle.std.specs.FinMap.{get}
 use Rattle.cell_sight.specs.Member.{Member}
 use Rattle.hb_cell.specs.declared.cell.Cell.{Cell}
 use Rattle.hb_cell.specs.Order.{same_bytes}
@@ -11,32 +9,23 @@ use Rattle.hb_file_names.specs.FileParts.{sixteen_digits, suffix_text}
 use Rattle.hb_layout.specs.declared.base.Base.{Base}
 use Rattle.hb_records.specs.declared.region_info.RegionInfo.{RegionInfo}
 use Rattle.plain_model.specs.declared.event.Event.{Event}
-use Rattle.plain_model.specs.declared.event.Event.TheVariants as event
-use Rattle.plain_model.specs.declared.hold.Hold.{Hold}
 use Rattle.plain_model.specs.declared.hold.Hold.TheVariants as holds
-use Rattle.plain_model.specs.declared.job.Job.{Job}
-use Rattle.plain_model.specs.declared.job.Job.TheVariants as jobs
 use Rattle.plain_model.specs.declared.parts.Live.{Live}
 use Rattle.plain_model.specs.declared.parts.PlainTable.{PlainTable}
 use Rattle.plain_model.specs.declared.region_key.RegionKey.{RegionKey}
 use Rattle.plain_model.specs.After as plain
-use Rattle.plain_model.specs.CellEvents.{compacted, families_in}
+use Rattle.plain_model.specs.CellEvents.{compacted}
 use Rattle.plain_model.specs.Keys.{key_at, key_of, same_key}
-use Rattle.plain_model.specs.Laws.{LeavesRegion}
 use Rattle.plain_model.specs.Conflicts.{excludes}
 use Rattle.plain_model.specs.LiveEvents.{job_of}
 use Rattle.plain_model.specs.Names.{Names}
-use Rattle.plain_model.specs.Plain.{Plain}
-use Rattle.plain_model.specs.Puts.{cell_put}
 use Rattle.plain_model.specs.TableEvents.{tables_on}
 use Rattle.core_model.specs.declared.entry.Entry.{Entry}
 use Rattle.core_model.specs.declared.entry.Entry.TheVariants.{Own}
 use Rattle.core_model.specs.declared.region_files.RegionFiles.{RegionFiles}
 use Rattle.core_model.specs.declared.targets.MoveFrom.{MoveFrom}
 use Rattle.core_model.specs.declared.targets.MoveFrom.TheVariants as moves
-use Rattle.core_model.specs.ActorChanges.{placed_by, unless_by}
-use Rattle.core_model.specs.ActorFacts.{FitsJob}
-use Rattle.core_model.specs.Actors.{HasHold, InSet, IsRegion}
+use Rattle.core_model.specs.Actors.{HasHold, IsRegion}
 use Rattle.core_model.specs.Entries.{has_own, is_own_of, seq_of}
 use Rattle.core_model.specs.FileGuards.{CanPlace, next_name}
 use Rattle.core_model.specs.Keys.{home, same_base}
@@ -44,19 +33,17 @@ use Rattle.core_model.specs.ListGuards.{Loads}
 use Rattle.core_model.specs.SetGuards.{IsChange}
 use Rattle.core_model.specs.Sound.{IsSound}
 use Rattle.core_model.specs.State.{Parts, Placed}
-use Rattle.core_sound.proofs.FilesKept.{written_stem}
-use Rattle.core_sound.proofs.HoldsFound.{hold_fits, hold_job, holds_apart, some_is}
+use Rattle.core_sound.proofs.HoldsFound.{some_is}
 use Rattle.core_sound.proofs.Lists.{member-append, member-map, or_left, or_right}
-use Rattle.core_sound.proofs.LiveKept.{hold_without}
-use Rattle.core_sound.proofs.RegionsStay.{own_hold, region_moved}
+use Rattle.core_sound.proofs.RegionsStay.{region_moved}
 use Rattle.core_sound.proofs.TablesKept.{other_table}
-use Rattle.core_sound.proofs.Tests.{cond_cases, same_base-self, same_base-true, same_bytes-self, same_bytes-true, same_key-true, same_number}
+use Rattle.core_sound.proofs.Tests.{cond_cases, same_base-self, same_base-true, same_bytes-true, same_key-true, same_number}
 use Rattle.core_contents.proofs.ChangesLeave.{stays_alike}
 use Rattle.core_regions.proofs.Held.{changer, other_held}
 use Rattle.core_cells.specs.Cells.{BulkNumbered, HasCells, HoldsCells, IsNumbered, LoadsNumbered}
 use Rattle.core_cells.proofs.Held.{compacted_of, of_drop, of_take}
 use Rattle.core_cells.proofs.Numbers.{numbered, unnumbered}
-use Rattle.core_cells.proofs.Regions.{ComesOf, loaded_of}
+use Rattle.core_cells.proofs.Regions.{loaded_of}
 
 abbrev pub Numbered : Parts → Base → ℕ → ℕ → Type 0
 Numbered s b a n = IsNumbered b a n s.plain.live s.plain.tables (s.plain.stable (home b)) (s.plain.mem (home b)) (s.plain.seq (home b))

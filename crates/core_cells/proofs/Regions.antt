@@ -1,7 +1,7 @@
 -- Each step keeps that regions hold their cells, but for changes of tables.
-use Rattle.std.proofs.Common.{◌≡◌, ◌≢◌, ◌≤◌, ℕ, ◌+◌, ◌||◌, Bool, true, false, not, cond, List, [], ◌∷◌, ◌++◌, take, drop, Option, Some, None, refl, sym, ap, ◌∙◌, subst, inl, inr, arith}
-use Rattle.std.specs.Prelude.{map, option_map, unwrap_or}
-use Rattle.std.specs.List.{AllZip, list_any}
+use Rattle.std.proofs.Common.{◌≡◌, ℕ, ◌+◌, Bool, true, false, not, cond, List, [], ◌∷◌, ◌++◌, take, drop, Option, Some, None, refl, sym, ap, ◌∙◌, subst, inl, inr, arith}
+use Rattle.std.specs.Prelude.{map, unwrap_or}
+use Rattle.std.specs.List.{list_any}
 use Rattle.std.specs.FinMap.{get}
 use Rattle.cell_sight.specs.Member.{Member}
 use Rattle.cell_sight.proofs.Truths.{any_some, turned}
@@ -14,10 +14,9 @@ use Rattle.plain_model.specs.declared.parts.PlainTable.{PlainTable}
 use Rattle.plain_model.specs.declared.put_cell.PutCell.{PutCell}
 use Rattle.plain_model.specs.declared.region_key.RegionKey.{RegionKey}
 use Rattle.plain_model.specs.declared.reply.Reply.TheVariants as replies
-use Rattle.plain_model.specs.CellEvents.{compacted, families_in, greatest}
+use Rattle.plain_model.specs.CellEvents.{compacted, greatest}
 use Rattle.plain_model.specs.Found.{families_of, families_of_table, has_family, is_enabled, is_table, open_in, region_with, regions_in}
 use Rattle.plain_model.specs.Keys.{encoded, key_at, key_of, same_key}
-use Rattle.plain_model.specs.Names.{Names}
 use Rattle.plain_model.specs.Plain.{Plain}
 use Rattle.plain_model.specs.Puts.{cell_put}
 use Rattle.plain_model.specs.Replies.{no_files, refusals}
@@ -27,9 +26,8 @@ use Rattle.core_model.specs.declared.entry.Entry.TheVariants.{Own}
 use Rattle.core_model.specs.declared.region_files.RegionFiles.{RegionFiles}
 use Rattle.core_model.specs.declared.targets.MoveFrom.{MoveFrom}
 use Rattle.core_model.specs.declared.targets.MoveFrom.TheVariants as moves
-use Rattle.core_model.specs.Actors.{InSet, IsRegion}
 use Rattle.core_model.specs.BulkParts.{ComesFrom, IsPartFile, is_whole, parts_of}
-use Rattle.core_model.specs.Entries.{base_of, cells_in, cells_of, seq_of, serves, with_seq}
+use Rattle.core_model.specs.Entries.{cells_of, seq_of, serves, with_seq}
 use Rattle.core_model.specs.Keys.{home}
 use Rattle.core_model.specs.ListGuards.{Loads}
 use Rattle.core_model.specs.Sound.{IsSound}
@@ -45,7 +43,7 @@ use Rattle.core_contents.proofs.Majored.{cell-entry}
 use Rattle.core_regions.specs.Cover.{IsCovered}
 use Rattle.core_regions.proofs.Counted.{differ_same}
 use Rattle.core_regions.proofs.Starts.{find-holds}
-use Rattle.core_cells.specs.Cells.{AreOnce, BulkNumbered, FitsLoad, HasCells, HoldsCells, IsCellOf, IsNumbered, RegionsHold}
+use Rattle.core_cells.specs.Cells.{BulkNumbered, FitsLoad, HasCells, HoldsCells, IsCellOf, IsNumbered}
 use Rattle.core_cells.proofs.Held.{draw_cells, flush_cells, load_cells, major_cells, put_cells}
 
 -- ---- regions of a table

@@ -1,9 +1,7 @@
 -- The entries of lists and of snapshots fit, where their cells are those of a region.
-use Rattle.std.proofs.Common.{◌≡◌, ◌≢◌, ◌≤◌, ℕ, ◌+◌, ◌++◌, Bool, true, false, cond, List, [], ◌∷◌, Option, Some, None, refl, sym, ap, ◌∙◌, subst, inl, inr, arith}
-use Rattle.std.specs.Prelude.{count_by}
+use Rattle.std.proofs.Common.{◌≡◌, ℕ, Bool, true, false, List, [], ◌∷◌, Option, Some, None, refl, sym, ap, ◌∙◌, subst, inl, inr, arith}
 use Rattle.std.specs.List.{AllZip, flat_map}
 use Rattle.std.specs.FinMap.{get}
-use Rattle.std.specs.Ordering.{eq_by_cmp}
 use Rattle.cell_sight.specs.Member.{Member}
 use Rattle.cell_sight.specs.Same.{Same}
 use Rattle.hb_cell.specs.declared.cell.Cell.{Cell}
@@ -13,16 +11,13 @@ use Rattle.region_set.specs.declared.set_state.SetState.{SetState}
 use Rattle.region_set.specs.declared.set_state.SetState.TheVariants as states
 use Rattle.plain_model.specs.declared.parts.PlainSnapshot.{PlainSnapshot}
 use Rattle.plain_model.specs.declared.parts.PlainTable.{PlainTable}
-use Rattle.plain_model.specs.declared.parts.RegionCopy.{RegionCopy}
 use Rattle.plain_model.specs.declared.region_key.RegionKey.{RegionKey}
-use Rattle.plain_model.specs.Keys.{key_of}
 use Rattle.core_model.specs.declared.entry.Entry.{Entry}
 use Rattle.core_model.specs.declared.snapshot.CopiedRegion.{CopiedRegion}
 use Rattle.core_model.specs.declared.snapshot.Snapshot.{Snapshot}
 use Rattle.core_model.specs.Actors.{InSet, IsRegion}
-use Rattle.core_model.specs.Entries.{Made, base_of, cells_in, cells_of}
+use Rattle.core_model.specs.Entries.{Made, cells_in, cells_of}
 use Rattle.core_model.specs.Opened.{table_in}
-use Rattle.core_model.specs.PassChanges.{snapshot_entries}
 use Rattle.core_model.specs.State.{Parts}
 use Rattle.core_sound.proofs.Lists.{member-behind, member-front}
 use Rattle.core_bytes.specs.Stored.{table_in_set}
@@ -31,7 +26,7 @@ use Rattle.core_contents.specs.ContentFacts.{Copies, FitsEntry, IsCopy}
 use Rattle.core_contents.specs.Faithful.{IsFaithful}
 use Rattle.core_recovers.specs.Reading.{IsIn}
 use Rattle.core_recovers.proofs.Recovered.{says}
-use Rattle.core_opens.specs.Fits.{EachTwo, FitsCell, FitsEntries, FitsSet, FitsSnapshot, FitsTable, MayStandBeside}
+use Rattle.core_opens.specs.Fits.{EachTwo, FitsEntries, FitsSet, MayStandBeside}
 use Rattle.core_opens.specs.Valid.{Fit}
 use Rattle.core_beside.specs.Apart.{IsBeside}
 use Rattle.core_regions.specs.Cover.{IsCovered, IsFitTable}

@@ -1,16 +1,13 @@
 -- So do the entries of journals.
-use Rattle.std.proofs.Common.{◌≡◌, ℕ, ◌+◌, zero, suc, Bool, true, false, List, [], ◌∷◌, take, Option, Some, None, refl, sym, ap, ◌∙◌, subst, inl, inr}
-use Rattle.std.specs.FinMap.{get}
-use Rattle.cell_sight.specs.Member.{Member}
+use Rattle.std.proofs.Common.{◌≡◌, ℕ, ◌+◌, zero, suc, Bool, true, false, List, [], ◌∷◌, take, Option, Some, None, refl, sym, ◌∙◌, subst}
 use Rattle.ns_tree.specs.Tree.{Tree}
-use Rattle.hb_records.specs.declared.region_info.RegionInfo.{RegionInfo}
 use Rattle.plain_model.specs.declared.parts.PlainTable.{PlainTable}
 use Rattle.region_set.specs.declared.region_set.RegionSet.{RegionSet}
 use Rattle.region_set.specs.declared.set_state.SetState.{SetState}
 use Rattle.region_set.specs.declared.set_state.SetState.TheVariants as states
 use Rattle.core_model.specs.declared.journal.JournalEntry.{JournalEntry}
 use Rattle.core_model.specs.declared.opening.Opening.{Opening}
-use Rattle.core_model.specs.Allows.{AllowsAll, AllowsEntry, AllowsFrom}
+use Rattle.core_model.specs.Allows.{AllowsEntry, AllowsFrom}
 use Rattle.core_model.specs.Disk.{disk_of}
 use Rattle.core_model.specs.Opened as opened
 use Rattle.core_model.specs.Replay.{after, begun, replay, replay_from, unless}
@@ -28,7 +25,7 @@ use Rattle.core_contents.proofs.Journals.{entry_faithful}
 use Rattle.core_opens.specs.Begins.{CanBegin}
 use Rattle.core_opens.specs.Fits.{FitsSet, FitsTable}
 use Rattle.core_opens.proofs.Opens.{begins_valid}
-use Rattle.core_opens.proofs.Read.{snapshot_is, table_is, tables_in}
+use Rattle.core_opens.proofs.Read.{snapshot_is, table_is}
 use Rattle.core_regions.specs.Cover.{HaveLimits, HasLimits, IsCovered, IsCoveredState, IsFitTable, LeadsToCovered}
 use Rattle.core_regions.proofs.Kept.{covered_kept}
 

@@ -1,11 +1,7 @@
 -- Each step keeps that regions cover all rows and differ.
-use Rattle.std.proofs.Common.{◌≡◌, ◌≤◌, ℕ, List, [], ◌∷◌, Some, refl, sym, subst}
-use Rattle.std.specs.FinMap.{get}
-use Rattle.hb_records.specs.declared.region_info.RegionInfo.{RegionInfo}
+use Rattle.std.proofs.Common.{ℕ, List, sym, subst}
 use Rattle.plain_model.specs.declared.event.Event.{Event}
 use Rattle.plain_model.specs.declared.event.Event.TheVariants as event
-use Rattle.plain_model.specs.declared.parts.PlainTable.{PlainTable}
-use Rattle.plain_model.specs.TableEvents.{tables_on}
 use Rattle.region_set.specs.declared.region_set.RegionSet.{RegionSet}
 use Rattle.plain_model.specs.declared.who.Actor.{Actor}
 use Rattle.core_model.specs.declared.step.Step.{Step}
@@ -24,7 +20,7 @@ use Rattle.core_sound.proofs.LiveKept.{live_after}
 use Rattle.core_sound.proofs.NeverAgain.{tables_after}
 use Rattle.core_contents.specs.Faithful.{IsFaithful}
 use Rattle.core_regions.specs.Cover.{HasLimits, HeldAreSplit, IsCovered, IsSmall, KeepsCovered, PlansCover, TablesFit}
-use Rattle.core_regions.proofs.PlansKept.{copies_after, copies_by, plans_kept}
+use Rattle.core_regions.proofs.PlansKept.{copies_after, plans_kept}
 use Rattle.core_regions.proofs.Snapshots.{snapshots_fit}
 use Rattle.core_regions.proofs.Tables.{MakesFamilies, change_fits}
 

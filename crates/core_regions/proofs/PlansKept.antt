@@ -1,12 +1,11 @@
 -- What actors plan goes on to cover all rows.
-use Rattle.std.proofs.Common.{◌≡◌, ◌≢◌, ◌⊎◌, ◌≤◌, ℕ, ◌++◌, ◌==◌, Bool, true, false, cond, List, [], ◌∷◌, Option, Some, None, refl, sym, ap, ◌∙◌, subst, inl, inr}
+use Rattle.std.proofs.Common.{◌≡◌, ℕ, ◌++◌, ◌==◌, Bool, true, false, cond, List, Option, Some, None, refl, sym, ap, ◌∙◌, subst, inl, inr}
 use Rattle.std.specs.Prelude.{IsSome, is_some, option_map, Ok}
 use Rattle.std.specs.List.{AllZip}
 use Rattle.std.specs.FinMap.{get, insert, remove}
 use Rattle.cell_sight.specs.Member.{Member}
 use Rattle.hb_cell.specs.Order.{same_bytes}
 use Rattle.hb_records.specs.declared.region_info.RegionInfo.{RegionInfo}
-use Rattle.region_set.specs.declared.region_set.RegionSet.{RegionSet}
 use Rattle.plain_model.specs.declared.event.Event.{Event}
 use Rattle.plain_model.specs.declared.event.Event.TheVariants as event
 use Rattle.plain_model.specs.declared.hold.Hold.{Hold}
@@ -20,7 +19,6 @@ use Rattle.plain_model.specs.declared.parts.PlainTable.{PlainTable}
 use Rattle.plain_model.specs.declared.region_key.RegionKey.{RegionKey}
 use Rattle.plain_model.specs.declared.who.Actor.{Actor}
 use Rattle.plain_model.specs.After.{after_all}
-use Rattle.plain_model.specs.Found.{table_of_snapshot}
 use Rattle.plain_model.specs.Keys.{key_of}
 use Rattle.plain_model.specs.LiveEvents.{job_of, live_of, without}
 use Rattle.plain_model.specs.Names.{Names}
@@ -49,18 +47,18 @@ use Rattle.core_model.specs.Sound.{IsSound}
 use Rattle.core_model.specs.StartGuards.{CanStart}
 use Rattle.core_model.specs.State.{Parts, no_plan}
 use Rattle.core_model.specs.TableChanges.{tables_by}
-use Rattle.core_sound.proofs.HoldsFound.{actor_found, found_joined, found_left, hold_fits, hold_job, hold_joined, hold_left, holds_apart, none_left, some_is}
+use Rattle.core_sound.proofs.HoldsFound.{actor_found, found_joined, found_left, hold_fits, hold_job, hold_left, holds_apart, none_left, some_is}
 use Rattle.core_sound.proofs.Lists.{map_some, member-find}
 use Rattle.core_sound.proofs.LiveKept.{hold_front, hold_without}
 use Rattle.core_sound.proofs.NumbersKept.{new_alone, same_self}
-use Rattle.core_sound.proofs.TablesKept.{other_table, put_other, put_this, taken_other}
+use Rattle.core_sound.proofs.TablesKept.{other_table, put_other, taken_other}
 use Rattle.core_sound.proofs.Tests.{cond_cases, same_bytes-self, same_bytes-true, same_number}
 use Rattle.core_contents.proofs.Changed.{used_there}
 use Rattle.core_contents.proofs.CopiesKept.{change_snapshots, take_job}
 use Rattle.core_contents.proofs.ExactKept.{not_actor}
-use Rattle.core_regions.specs.Cover.{AreNewRegions, CopiesBounds, HasBounds, Divides, HeldAreSplit, IsCovered, IsListed, PlanCovers, PlansCover, table_in_copy}
+use Rattle.core_regions.specs.Cover.{AreNewRegions, CopiesBounds, HasBounds, HeldAreSplit, IsCovered, IsListed, PlanCovers, PlansCover, table_in_copy}
 use Rattle.core_regions.proofs.Held.{listed_stays}
-use Rattle.core_regions.proofs.Starts.{janitor_holds, new_hold, start_covers, with_new}
+use Rattle.core_regions.proofs.Starts.{janitor_holds, start_covers, with_new}
 
 -- ---- a plan, when the state goes on
 

@@ -22,7 +22,6 @@ use Rattle.core_model.specs.Sound.{IsSound}
 use Rattle.core_model.specs.State.{Parts}
 use Rattle.core_sound.proofs.Lists.{get-put, get-taken, member-map, or_left}
 use Rattle.core_sound.proofs.Sources.{open-member}
-use Rattle.core_bytes.specs.Recorded.{any_part}
 use Rattle.core_bytes.specs.Written.{IsWritten}
 use Rattle.core_opens.specs.Fits.{AreFamilies, AreRegions}
 use Rattle.core_regions.specs.Cover.{IsCovered, IsFitSnapshot, SnapshotsFit, infos_in}

@@ -1,5 +1,5 @@
 -- What a start plans covers all rows.
-use Rattle.std.proofs.Common.{◌≡◌, ◌≢◌, ◌⊎◌, ℕ, ◌+◌, ◌&&◌, ◌==◌, Bool, true, false, not, cond, List, [], ◌∷◌, ◌++◌, Option, Some, None, refl, sym, ap, ◌∙◌, subst, inl, inr, T}
+use Rattle.std.proofs.Common.{◌≡◌, ◌≢◌, ℕ, ◌+◌, Bool, true, false, not, cond, List, [], ◌∷◌, ◌++◌, Option, Some, None, refl, sym, ap, ◌∙◌, subst, inl, inr, T}
 use Rattle.std.specs.Prelude.{IsSome, filter, map, option_map, option_to_list}
 use Rattle.std.specs.List.{AllZip, find, flat_map}
 use Rattle.std.specs.FinMap.{entries, entries_sorted, get, get-entries, is_sorted}
@@ -24,12 +24,11 @@ use Rattle.plain_model.specs.declared.region_key.RegionKey.{RegionKey}
 use Rattle.plain_model.specs.declared.reply.Reply.TheVariants as replies
 use Rattle.plain_model.specs.declared.who.Actor.{Actor}
 use Rattle.plain_model.specs.CanHappen.{AreHalves}
-use Rattle.plain_model.specs.Found.{open_in, region_with, regions_in, set_of}
-use Rattle.plain_model.specs.Holds.{holds_of}
+use Rattle.plain_model.specs.Found.{open_in, region_with, regions_in}
 use Rattle.plain_model.specs.Keys.{encoded, key_of}
 use Rattle.plain_model.specs.Names.{Names}
 use Rattle.plain_model.specs.Plain.{Plain}
-use Rattle.plain_model.specs.Replies.{Files, are_splits, is_start_of, refusals, reply_with}
+use Rattle.plain_model.specs.Replies.{are_splits, is_start_of, refusals}
 use Rattle.plain_model.specs.Rows.{CoverAll, holds_row, is_before_end, open_of}
 use Rattle.core_model.specs.declared.plan.Plan.{Plan}
 use Rattle.core_model.specs.declared.snapshot.CopiedRegion.{CopiedRegion}
@@ -40,14 +39,14 @@ use Rattle.core_model.specs.Actors.{HasHold}
 use Rattle.core_model.specs.Plans.{copied_regions, daughters, new_regions, region_id, region_of, split_regions, table_in}
 use Rattle.core_model.specs.Plans as plans
 use Rattle.core_model.specs.Sound.{IsSound}
-use Rattle.core_model.specs.StartGuards.{AreUnreferenced, CanStart, IsTaken, all_split_keys, by_new, regions_for, split_keys}
+use Rattle.core_model.specs.StartGuards.{CanStart, IsTaken, all_split_keys, by_new, regions_for, split_keys}
 use Rattle.core_model.specs.State.{Parts}
 use Rattle.core_model.specs.TableFacts.{HasOwnRegions}
 use Rattle.core_sound.proofs.HoldsFound.{some_is}
 use Rattle.core_sound.proofs.Lists.{eq_name, member-append, member-behind, member-find}
 use Rattle.core_sound.proofs.NumbersKept.{new_found}
 use Rattle.core_sound.proofs.Sources.{map-member, open-member}
-use Rattle.core_sound.proofs.Tests.{cond_cases, same_bytes-self, same_bytes-true}
+use Rattle.core_sound.proofs.Tests.{cond_cases, same_bytes-self}
 use Rattle.core_sound.proofs.Vacant.{create_refuse, holds_not, not_taken, split_refuse}
 use Rattle.core_contents.proofs.PlannedFor.{AreDistinct, copied_table, distinct}
 use Rattle.core_opens.specs.Fits.{EachTwo}

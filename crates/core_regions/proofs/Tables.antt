@@ -19,7 +19,6 @@ use Rattle.plain_model.specs.declared.parts.PlainTable.{PlainTable}
 use Rattle.plain_model.specs.declared.region_key.RegionKey.{RegionKey}
 use Rattle.plain_model.specs.Keys.{encoded, key_at, key_of}
 use Rattle.plain_model.specs.LiveEvents.{job_of}
-use Rattle.plain_model.specs.Names.{Names}
 use Rattle.plain_model.specs.Rows.{CoverAll, open_of}
 use Rattle.plain_model.specs.TableEvents.{is_one_of, schema_for, table_of, tables_on, with_copy, with_region, with_restored, with_split}
 use Rattle.core_model.specs.declared.snapshot.Snapshot.{Snapshot}
@@ -38,9 +37,9 @@ use Rattle.core_sound.proofs.Tests.{same_bytes-true}
 use Rattle.core_contents.specs.ContentFacts.{Copies}
 use Rattle.core_contents.specs.Faithful.{IsFaithful}
 use Rattle.core_contents.specs.PlanFacts.{IsPlan}
-use Rattle.core_opens.specs.Fits.{AreFamilies, AreRegions}
+use Rattle.core_opens.specs.Fits.{AreFamilies}
 use Rattle.core_beside.proofs.Pairs.{each-from}
-use Rattle.core_regions.specs.Cover.{AreNewRegions, Differ, Divides, IsCovered, IsFitTable, IsListed, IsSmall, CopiesBounds, table_in_copy}
+use Rattle.core_regions.specs.Cover.{AreNewRegions, Differ, Divides, IsCovered, IsFitTable, IsSmall, CopiesBounds, table_in_copy}
 use Rattle.core_regions.proofs.Counted.{differ_new, differ_put, differ_same, differ_split, differ_without, in_put, of_put, open-all, opens-without, split_covers, still_put}
 use Rattle.core_regions.proofs.Held.{changed_from, none_of, removed_held}
 
