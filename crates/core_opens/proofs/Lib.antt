@@ -3,5 +3,5 @@ mod Beside
 pub mod Read
 pub mod Opens
 mod Lives
-mod Bare
+pub mod Bare
 mod Faultless

@@ -179,5 +179,6 @@ other_held {P} s a w table x h c y n e = (elim (a == w) as (λ b. a == w ≡ b �
   where
     apart : (a == w) ≡ false → a ≡ w → ⊥
     apart d i = grind (arith, nat_tests)
+
     job_is : (a == w) ≡ true → y.activity.job ≡ c.job
     job_is d = some_is (sym (hold_job s.plain.live w x y) ∙ ap (job_of s.plain.live) (sym (same_number a w d)) ∙ c.is_job)
