@@ -1,2 +1,2 @@
 mod Entries
-mod Valid
+pub mod Valid
