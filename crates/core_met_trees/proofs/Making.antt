@@ -1,5 +1,5 @@
 -- A table is made over an empty store, with the bytes of its set.
-use Rattle.std.proofs.Common.{◌≡◌, ℕ, List, [], ◌∷◌, Some, None, refl, sym, ap, subst, ◌∙◌, inl, arith}
+use Rattle.std.proofs.Common.{◌≡◌, ℕ, List, [], ◌∷◌, Some, refl, sym, ap, subst, ◌∙◌, inl, arith}
 use Rattle.std.specs.Prelude.{codes}
 use Rattle.std.specs.FinMap.{empty, get-empty}
 use Rattle.hb_cell.specs.Order.{bytes_cmp}
@@ -11,7 +11,6 @@ use Rattle.core_model.specs.declared.step.Step.{Step}
 use Rattle.core_model.specs.declared.step.Step.TheVariants as step
 use Rattle.core_model.specs.Allows.{Allows, AllowsFrom}
 use Rattle.core_model.specs.FileChanges.{set_number}
-use Rattle.core_model.specs.Opened.{opened}
 use Rattle.core_model.specs.Replay.{after, replay, replay_from}
 use Rattle.core_model.specs.Site.{RegionSet}
 use Rattle.core_model.specs.State.{Parts}
