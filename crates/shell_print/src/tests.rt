@@ -1,7 +1,7 @@
 //! The texts of replies and causes.
 use crate::{PrintCause, print_cause, print_reply};
 use hb_cell::{Cell, Kind};
-use hb_names::{Encoded, FamilyName, NameError, Place, SnapName};
+use hb_names::{Encoded, FamilyName, Place, SnapName};
 use hb_wire::{Blob, Items, NoMemory};
 use plain_model::{Actor, Reply};
 use std::alloc::Global;
@@ -25,114 +25,47 @@ fn causes(rt: HostRuntime) -> Result<(), Fail> {
     Ok(())
 }
 
-/// What is printed behind a mark.
-fn printed(alloc: Global, reply: &Reply) -> Result<Blob, NoMemory> {
-    let mut out = Blob::copy_of(alloc, b">")?;
-    print_reply(&mut out, reply)?;
-    Ok(out)
-}
-
-#[test]
-fn replies_without_fields(rt: HostRuntime) -> Result<(), Fail> {
-    let table: [(Reply, &[u8]); 11] = [
-        (Reply::Fine, b">ok\n"),
-        (Reply::TableExists, b">refused TableExists\n"),
-        (Reply::TableNotFound, b">refused TableNotFound\n"),
-        (Reply::TableNotEnabled, b">refused TableNotEnabled\n"),
-        (Reply::TableNotDisabled, b">refused TableNotDisabled\n"),
-        (Reply::NameTaken, b">refused NameTaken\n"),
-        (Reply::BadSplitKey, b">refused BadSplitKey\n"),
-        (Reply::HasReferences, b">refused HasReferences\n"),
-        (Reply::TooManyRegions, b">refused TooManyRegions\n"),
-        (Reply::SnapshotExists, b">refused SnapshotExists\n"),
-        (Reply::SnapshotNotFound, b">refused SnapshotNotFound\n"),
-    ];
-    for (reply, text) in table {
-        let out = printed(rt.alloc(), &reply)?;
-        assert_eq!(rt; out.as_slice(), text);
+/// A reply without fields, or with numbers alone.
+fn plain(number: usize) -> Reply {
+    match number {
+        0 => Reply::Fine,
+        1 => Reply::TableExists,
+        2 => Reply::TableNotFound,
+        3 => Reply::TableNotEnabled,
+        4 => Reply::TableNotDisabled,
+        5 => Reply::NameTaken,
+        6 => Reply::BadSplitKey,
+        7 => Reply::HasReferences,
+        8 => Reply::TooManyRegions,
+        9 => Reply::SnapshotExists,
+        10 => Reply::SnapshotNotFound,
+        11 => Reply::Removed(0),
+        12 => Reply::Removed(1),
+        13 => Reply::Removed(4_294_967_295),
+        14 => Reply::InUse(Actor(17)),
+        _ => Reply::EmptyGroup,
     }
-    Ok(())
 }
 
-#[test]
-fn replies_with_numbers(rt: HostRuntime) -> Result<(), Fail> {
-    let table: [(Reply, &[u8]); 5] = [
-        (Reply::Removed(0), b">0 regions removed\n"),
-        (Reply::Removed(1), b">1 regions removed\n"),
-        (
-            Reply::Removed(4_294_967_295),
-            b">4294967295 regions removed\n",
-        ),
-        (Reply::InUse(Actor(17)), b">refused InUse 17\n"),
-        (Reply::EmptyGroup, b">refused EmptyGroup\n"),
-    ];
-    for (reply, text) in table {
-        let out = printed(rt.alloc(), &reply)?;
-        assert_eq!(rt; out.as_slice(), text);
+/// A reply with names.
+fn named(alloc: Global, number: usize) -> Result<Reply, Fail> {
+    let family = FamilyName::read(alloc, b"f-1")?;
+    let file = Blob::copy_of(alloc, b"f/x y")?;
+    match number {
+        0 => Ok(Reply::DuplicateFamily(family)),
+        1 => Ok(Reply::UnknownFamily(family)),
+        2 => Ok(Reply::TooManyFiles(
+            Encoded::read(alloc, b"0123456789abcdef0123456789abcdef")?,
+            family,
+        )),
+        3 => Ok(Reply::Taking(SnapName::read(alloc, b"s.1")?)),
+        4 => Ok(Reply::BadFile(file)),
+        _ => Ok(Reply::DuplicateKey(file)),
     }
-    Ok(())
-}
-
-fn family(alloc: Global) -> Result<FamilyName, NameError> {
-    FamilyName::read(alloc, b"f-1")
-}
-
-fn region(alloc: Global) -> Result<Encoded, NameError> {
-    Encoded::read(alloc, b"0123456789abcdef0123456789abcdef")
-}
-
-fn file(alloc: Global) -> Result<Blob, NoMemory> {
-    Blob::copy_of(alloc, b"f/x y")
-}
-
-#[test]
-fn replies_with_families(rt: HostRuntime) -> Result<(), Fail> {
-    let table: [(Reply, &[u8]); 3] = [
-        (
-            Reply::DuplicateFamily(family(rt.alloc())?),
-            b">refused DuplicateFamily f-1\n",
-        ),
-        (
-            Reply::UnknownFamily(family(rt.alloc())?),
-            b">refused UnknownFamily f-1\n",
-        ),
-        (
-            Reply::TooManyFiles(region(rt.alloc())?, family(rt.alloc())?),
-            b">refused TooManyFiles 0123456789abcdef0123456789abcdef f-1\n",
-        ),
-    ];
-    for (reply, text) in table {
-        let out = printed(rt.alloc(), &reply)?;
-        assert_eq!(rt; out.as_slice(), text);
-    }
-    Ok(())
-}
-
-#[test]
-fn replies_with_names(rt: HostRuntime) -> Result<(), Fail> {
-    let table: [(Reply, &[u8]); 3] = [
-        (
-            Reply::Taking(SnapName::read(rt.alloc(), b"s.1")?),
-            b">refused Taking s.1\n",
-        ),
-        (
-            Reply::BadFile(file(rt.alloc())?),
-            b">refused BadFile f/x\\x20y\n",
-        ),
-        (
-            Reply::DuplicateKey(file(rt.alloc())?),
-            b">refused DuplicateKey f/x\\x20y\n",
-        ),
-    ];
-    for (reply, text) in table {
-        let out = printed(rt.alloc(), &reply)?;
-        assert_eq!(rt; out.as_slice(), text);
-    }
-    Ok(())
 }
 
 /// The names of so many snapshots.
-fn snapshots(alloc: Global, many: u8) -> Result<Reply, Fail> {
+fn snapshots(alloc: Global, many: usize) -> Result<Reply, Fail> {
     let mut names = Vec::new(alloc);
     for _ in 0..many {
         names.push(SnapName::read(alloc, b"s")?)?;
@@ -140,22 +73,8 @@ fn snapshots(alloc: Global, many: u8) -> Result<Reply, Fail> {
     Ok(Reply::Snapshots(Items::from_vec(names)))
 }
 
-#[test]
-fn lists_of_snapshots(rt: HostRuntime) -> Result<(), Fail> {
-    let table: [(u8, &[u8]); 3] = [
-        (0, b">0 snapshots\n"),
-        (1, b">s\n1 snapshots\n"),
-        (2, b">s\ns\n2 snapshots\n"),
-    ];
-    for (many, text) in table {
-        let out = printed(rt.alloc(), &snapshots(rt.alloc(), many)?)?;
-        assert_eq!(rt; out.as_slice(), text);
-    }
-    Ok(())
-}
-
 /// So many places.
-fn deleted(alloc: Global, many: u8) -> Result<Reply, Fail> {
+fn deleted(alloc: Global, many: usize) -> Result<Reply, Fail> {
     let mut places = Vec::new(alloc);
     for _ in 0..many {
         places.push(Place::read(alloc, b"archive/data/x")?)?;
@@ -163,110 +82,100 @@ fn deleted(alloc: Global, many: u8) -> Result<Reply, Fail> {
     Ok(Reply::Deleted(Items::from_vec(places)))
 }
 
-#[test]
-fn lists_of_places(rt: HostRuntime) -> Result<(), Fail> {
-    let table: [(u8, &[u8]); 3] = [
-        (0, b">0 deleted\n"),
-        (1, b">deleted archive/data/x\n1 deleted\n"),
-        (
-            2,
-            b">deleted archive/data/x\ndeleted archive/data/x\n2 deleted\n",
-        ),
-    ];
-    for (many, text) in table {
-        let out = printed(rt.alloc(), &deleted(rt.alloc(), many)?)?;
-        assert_eq!(rt; out.as_slice(), text);
+/// A row, a qualifier, a timestamp and a value.
+type CellParts = (&'static [u8], &'static [u8], u64, &'static [u8]);
+
+fn parts(number: usize) -> CellParts {
+    match number {
+        0 => (b"r", b"q", 5, b"v"),
+        1 => (b"a", b"", 0, b""),
+        2 => (b"!~}]", b"[^:'\"", 9_223_372_036_854_775_807, b"0aA"),
+        3 => (b" \\\x7f", b"\n\r\t", 10, b"\x00\xff"),
+        _ => (b"\x1f\x80", b"\xc3\xa4", 1, b"\xfe\xed"),
     }
-    Ok(())
 }
 
-/// A cell of a row, a qualifier, a timestamp and a value, and its line.
-#[derive(Clone, Copy)]
-struct CellRow {
-    row: &'static [u8],
-    qualifier: &'static [u8],
-    ts: u64,
-    value: &'static [u8],
-    line: &'static [u8],
-}
-
-const CELLS: [CellRow; 5] = [
-    CellRow {
-        row: b"r",
-        qualifier: b"q",
-        ts: 5,
-        value: b"v",
-        line: b">r f:q ts=5 value=v\n1 cells\n",
-    },
-    CellRow {
-        row: b"a",
-        qualifier: b"",
-        ts: 0,
-        value: b"",
-        line: b">a f: ts=0 value=\n1 cells\n",
-    },
-    CellRow {
-        row: b"!~}]",
-        qualifier: b"[^:'\"",
-        ts: 9_223_372_036_854_775_807,
-        value: b"0aA",
-        line: b">!~}] f:[^:'\" ts=9223372036854775807 value=0aA\n1 cells\n",
-    },
-    CellRow {
-        row: b" \\\x7f",
-        qualifier: b"\n\r\t",
-        ts: 10,
-        value: b"\x00\xff",
-        line: b">\\x20\\x5c\\x7f f:\\x0a\\x0d\\x09 ts=10 value=\\x00\\xff\n1 cells\n",
-    },
-    CellRow {
-        row: b"\x1f\x80",
-        qualifier: b"\xc3\xa4",
-        ts: 1,
-        value: b"\xfe\xed",
-        line: b">\\x1f\\x80 f:\\xc3\\xa4 ts=1 value=\\xfe\\xed\n1 cells\n",
-    },
-];
-
-fn cell(alloc: Global, row: &CellRow) -> Result<Cell, NoMemory> {
+fn cell(alloc: Global, parts: CellParts) -> Result<Cell, NoMemory> {
     Ok(Cell {
-        row: Blob::copy_of(alloc, row.row)?,
+        row: Blob::copy_of(alloc, parts.0)?,
         family: Blob::copy_of(alloc, b"f")?,
-        qualifier: Blob::copy_of(alloc, row.qualifier)?,
-        ts: row.ts,
+        qualifier: Blob::copy_of(alloc, parts.1)?,
+        ts: parts.2,
         kind: Kind::Put,
         seq: 7,
-        value: Blob::copy_of(alloc, row.value)?,
+        value: Blob::copy_of(alloc, parts.3)?,
     })
 }
 
-/// The cell so many times.
-fn cells(alloc: Global, row: &CellRow, many: u8) -> Result<Reply, NoMemory> {
+/// A cell so many times.
+fn cells(alloc: Global, number: usize, many: usize) -> Result<Reply, Fail> {
     let mut cells = Vec::new(alloc);
     for _ in 0..many {
-        cells.push(cell(alloc, row)?)?;
+        cells.push(cell(alloc, parts(number))?)?;
     }
     Ok(Reply::Cells(Items::from_vec(cells)))
 }
 
-#[test]
-fn lines_of_cells(rt: HostRuntime) -> Result<(), Fail> {
-    for row in CELLS {
-        let out = printed(rt.alloc(), &cells(rt.alloc(), &row, 1)?)?;
-        assert_eq!(rt; out.as_slice(), row.line);
+/// The reply whose text has this number.
+fn reply(alloc: Global, number: usize) -> Result<Reply, Fail> {
+    match number {
+        0..=15 => Ok(plain(number)),
+        16..=21 => named(alloc, number - 16),
+        22..=24 => snapshots(alloc, number - 22),
+        25..=27 => deleted(alloc, number - 25),
+        28..=32 => cells(alloc, number - 28, 1),
+        33 => cells(alloc, 0, 0),
+        _ => cells(alloc, 0, 2),
     }
-    Ok(())
 }
 
+const TEXTS: [&'static [u8]; 35] = [
+    b">ok\n",
+    b">refused TableExists\n",
+    b">refused TableNotFound\n",
+    b">refused TableNotEnabled\n",
+    b">refused TableNotDisabled\n",
+    b">refused NameTaken\n",
+    b">refused BadSplitKey\n",
+    b">refused HasReferences\n",
+    b">refused TooManyRegions\n",
+    b">refused SnapshotExists\n",
+    b">refused SnapshotNotFound\n",
+    b">0 regions removed\n",
+    b">1 regions removed\n",
+    b">4294967295 regions removed\n",
+    b">refused InUse 17\n",
+    b">refused EmptyGroup\n",
+    b">refused DuplicateFamily f-1\n",
+    b">refused UnknownFamily f-1\n",
+    b">refused TooManyFiles 0123456789abcdef0123456789abcdef f-1\n",
+    b">refused Taking s.1\n",
+    b">refused BadFile f/x\\x20y\n",
+    b">refused DuplicateKey f/x\\x20y\n",
+    b">0 snapshots\n",
+    b">s\n1 snapshots\n",
+    b">s\ns\n2 snapshots\n",
+    b">0 deleted\n",
+    b">deleted archive/data/x\n1 deleted\n",
+    b">deleted archive/data/x\ndeleted archive/data/x\n2 deleted\n",
+    b">r f:q ts=5 value=v\n1 cells\n",
+    b">a f: ts=0 value=\n1 cells\n",
+    b">!~}] f:[^:'\" ts=9223372036854775807 value=0aA\n1 cells\n",
+    b">\\x20\\x5c\\x7f f:\\x0a\\x0d\\x09 ts=10 value=\\x00\\xff\n1 cells\n",
+    b">\\x1f\\x80 f:\\xc3\\xa4 ts=1 value=\\xfe\\xed\n1 cells\n",
+    b">0 cells\n",
+    b">r f:q ts=5 value=v\nr f:q ts=5 value=v\n2 cells\n",
+];
+
 #[test]
-fn lists_of_cells(rt: HostRuntime) -> Result<(), Fail> {
-    let table: [(u8, &[u8]); 2] = [
-        (0, b">0 cells\n"),
-        (2, b">r f:q ts=5 value=v\nr f:q ts=5 value=v\n2 cells\n"),
-    ];
-    for (many, text) in table {
-        let out = printed(rt.alloc(), &cells(rt.alloc(), &CELLS[0], many)?)?;
-        assert_eq!(rt; out.as_slice(), text);
+fn replies(rt: HostRuntime) -> Result<(), Fail> {
+    let mut number: usize = 0;
+    for text in TEXTS {
+        let reply = reply(rt.alloc(), number)?;
+        let mut out = Blob::copy_of(rt.alloc(), b">")?;
+        print_reply(&mut out, &reply)?;
+        assert_eq!(rt; out.as_slice(), text, "of {number}");
+        number = number.saturating_add(1);
     }
     Ok(())
 }
