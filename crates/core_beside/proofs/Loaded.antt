@@ -135,8 +135,8 @@ one_part a folder i f g b c s h x y e =
     λ j. (d j, n j)
 
 pub added_differ : (a : ℕ) (r : RegionKey) (l : RegionFiles) (cells : List Cell) (more : List (List ℕ × Entry)) (s : Parts) (g : Loads a r l cells more s) → LoadsAscend s.loads → ArePlacedOnce s.epoch s.files (tmps_of s.disk) s.placed → EachTwo (λ b c. b ≢ c) g.added
-added_differ a r l cells more s g h k = two-zip (λ f b. IsPartFile a g.folder g.info f b s × (s.waiting b ≡ Some a)) (λ f h. f ≢ h) (λ b c. b ≢ c) (parts_of s.staged g.folder g.info (s.loads a)) g.added
-    (λ f h b c n x y e. n (one_part a g.folder g.info f h b c s k x.0 y.0 e)) g.files (two-filter (λ f h. f ≢ h) (has_part s.staged g.folder g.info) (s.loads a) (ascends_differ (s.loads a) (h.at a)))
+added_differ a r l cells more s g h k = two-zip (λ f b. IsPartFile a g.folder g.is_open.info f b s × (s.waiting b ≡ Some a)) (λ f h. f ≢ h) (λ b c. b ≢ c) (parts_of s.staged g.folder g.is_open.info (s.loads a)) g.added
+    (λ f h b c n x y e. n (one_part a g.folder g.is_open.info f h b c s k x.0 y.0 e)) g.files (two-filter (λ f h. f ≢ h) (has_part s.staged g.folder g.is_open.info) (s.loads a) (ascends_differ (s.loads a) (h.at a)))
 
 -- ---- loads
 

@@ -152,9 +152,9 @@ loaded_of a r l cells more s g h c m =
     let v = map-member Own w.0 g.added w.1 in
     let x = subst (λ (e : Entry). Member c (cells_of s.made e)) (sym v.2) w.2 in
     let y = map-member (with_seq (seq_of v.0.name)) c (unwrap_or (s.made v.0) []) (of_filter (serves (Own v.0)) c _ x).0 in
-    let z = zip-member _ (parts_of s.staged g.folder g.info (s.loads a)) g.added v.0 g.files v.1 in
-    let n = part_numbered a g.folder g.info z.0 v.0 s h z.1.0 in
-    record { base = v.0; listed = v.1; waiting = z.1.1; region = z.1.0.region ∙ g.region; named = n.1 ∙ ap Some (sym (own_number (seq_of v.0.name) n.0 y.0 c n.1 y.2)) }
+    let z = zip-member _ (parts_of s.staged g.folder g.is_open.info (s.loads a)) g.added v.0 g.files v.1 in
+    let n = part_numbered a g.folder g.is_open.info z.0 v.0 s h z.1.0 in
+    record { base = v.0; listed = v.1; waiting = z.1.1; region = z.1.0.region ∙ g.is_open.key; named = n.1 ∙ ap Some (sym (own_number (seq_of v.0.name) n.0 y.0 c n.1 y.2)) }
 
 pub load_region : (a : ℕ) (r : RegionKey) (l : RegionFiles) (cells : List Cell) (more : List (List ℕ × Entry)) (s : Parts) (tb : PlainTable) (i : RegionInfo) (split : Bool) → Loads a r l cells more s → FitsLoad r cells s.plain.tables → HasCells s → get s.plain.tables i.table ≡ Some tb → Member (i, split) tb.regions → Holds s.plain tb i
     → HoldsCells i tb.schema.families (cond (same_key (key_of i) r) (s.plain.stable r ++ cells) (s.plain.stable (key_of i))) (s.plain.mem (key_of i)) (cond (same_key (key_of i) r) (greatest (s.plain.kept r) cells) (s.plain.kept (key_of i))) (s.plain.seq (key_of i))

@@ -1,7 +1,8 @@
 -- When a written list may become a region's newest, by what it is committed for.
-use Rattle.std.specs.Prelude.{◌≡◌, ◌≢◌, ℕ, ◌+◌, ◌<◌, Bool, true, false, cond, not, List, [], ◌∷◌, ◌++◌, map, Option, Some, None, unwrap_or}
+use Rattle.std.specs.Prelude.{◌≡◌, ◌≢◌, ℕ, ◌+◌, ◌≤◌, ◌<◌, Bool, true, false, cond, not, List, [], ◌∷◌, ◌++◌, map, count_by, Option, Some, None, unwrap_or}
 use Rattle.std.specs.List.{filter, AllZip, AllByRecursion, list_any, fold}
 use Rattle.std.specs.FinMap.{get}
+use Rattle.std.specs.Ordering.{eq_by_cmp}
 use Rattle.hb_cell.specs.declared.cell.Cell.{Cell}
 use Rattle.hb_layout.specs.declared.base.Base.{Base}
 use Rattle.hb_records.specs.declared.region_info.RegionInfo.{RegionInfo}
@@ -10,7 +11,7 @@ use Rattle.plain_model.specs.declared.hold.Hold.TheVariants as holds
 use Rattle.plain_model.specs.declared.job.Job.{Job}
 use Rattle.plain_model.specs.declared.job.Job.TheVariants as jobs
 use Rattle.plain_model.specs.declared.region_key.RegionKey.{RegionKey}
-use Rattle.hb_cell.specs.Order.{same_bytes, is_below}
+use Rattle.hb_cell.specs.Order.{same_bytes, is_below, key_cmp}
 use Rattle.plain_model.specs.CellEvents.{greatest}
 use Rattle.plain_model.specs.Found.{families_of}
 use Rattle.plain_model.specs.Keys.{key_of, same_key}
@@ -29,7 +30,7 @@ use Rattle.core_model.specs.declared.targets.Why.TheVariants as why
 use Rattle.cell_sight.specs.Member.{Member}
 use Rattle.core_model.specs.Keys.{home}
 use Rattle.core_model.specs.Disk.{live_of}
-use Rattle.core_model.specs.Entries.{Made, base_of, is_own, is_in, file_of, cells_in, region_list, seq_of, IsKey, IsEntryIn}
+use Rattle.core_model.specs.Entries.{Made, base_of, is_own, is_in, file_of, cells_of, cells_in, region_list, seq_of, IsKey, IsEntryIn}
 use Rattle.core_model.specs.Actors.{HasHold, HasJob, InSet, IsRegion, MayFlush, last_pin}
 use Rattle.core_model.specs.BulkParts.{parts_of, IsPartFile}
 use Rattle.core_model.specs.FileGuards.{Wrote}
@@ -174,19 +175,28 @@ pub record Compacts (a : ℕ) (r : RegionKey) (major : Bool) (l : RegionFiles) (
 abbrev pub FitsFamily : Made → Base → Type 0
 FitsFamily made b = (c : Cell) → Member c (unwrap_or (made b) []) → c.family ≡ b.family
 
+-- its family is one of these
+abbrev pub HasKnownFamily : List (List ℕ × ℕ) → Base → Type 0
+HasKnownFamily families b = (versions : ℕ) × Member (b.family, versions) families
+
+-- no two of its cells are equal: they have one number, so they differ in more than number and value
+abbrev pub HasNoDouble : Made → Base → Type 0
+HasNoDouble made b = (c : Cell) → count_by (eq_by_cmp key_cmp c) (cells_of made (Own b)) ≤ 1
+
 pub record Loads (a : ℕ) (r : RegionKey) (l : RegionFiles) (cells : List Cell) (planned : List (List ℕ × Entry)) (s : Parts) : Type 0 where
   pub folder : List ℕ
   pub job : HasJob s.plain.live a (jobs.Bulk r.table folder)
   pub held : HasHold s.plain.live a (holds.Load r.table)
-  pub info : RegionInfo
   pub is_open : InSet s.plain.tables r false
-  pub region : key_of info ≡ r
   pub added : List Base
   -- one file for each part of the region's group, placed and not listed yet
-  pub files : AllZip (λ f b. IsPartFile a folder info f b s × (s.waiting b ≡ Some a)) (parts_of s.staged folder info (s.loads a)) added
+  pub files : AllZip (λ f b. IsPartFile a folder is_open.info f b s × (s.waiting b ≡ Some a)) (parts_of s.staged folder is_open.info (s.loads a)) added
   pub some : added ≢ []
-  -- a load is refused where a file has cells of another family
+  -- a load is refused where a file has a family that is not the table's, cells of another family, or two that are equal but for number
+  -- and value
+  pub known : AllByRecursion (HasKnownFamily is_open.table.schema.families) added
   pub fits : AllByRecursion (FitsFamily s.made) added
+  pub once : AllByRecursion (HasNoDouble s.made) added
   pub entries : l.entries ≡ (s.lists r).entries ++ map Own added
   pub joins : cells ≡ cells_in s.made (map Own added)
   pub seq : l.seq ≡ greatest (s.plain.kept r) (cells_in s.made (map Own added))
