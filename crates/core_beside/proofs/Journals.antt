@@ -32,7 +32,7 @@ in_set d o tree c r split i = record { table = i.table; stands = sym (table_is (
 listed_beside : (o : Opening) (tree : Tree) (c : CanBegin o tree) (r : RegionKey) (split : Bool) → InSet (tables_in o.found) r split → AreBeside (found_list o.found.lists r).entries
 listed_beside o tree c r split i = subst (λ (l : RegionFiles). AreBeside l.entries) (sym (c.found.lists r)) (c.valid.fit.lists r split (in_set (disk_of tree) o tree c r split i)).beside
 
-opened_beside : (o : Opening) (tree : Tree) → CanBegin o tree → IsBeside (opened o)
+pub opened_beside : (o : Opening) (tree : Tree) → CanBegin o tree → IsBeside (opened o)
 opened_beside o tree c = record {
   unused = record { at = λ b a e. absurd (cc) };
   beside = record {
@@ -46,7 +46,7 @@ opened_beside o tree c = record {
 
 -- ---- entries
 
-entry_beside : (n : ℕ) (e : JournalEntry) (s : State) → HasFew n s → AllowsEntry n e s → IsSoundState s → IsFaithfulState s → IsBesideState s → IsBesideState (replay.step n s e)
+pub entry_beside : (n : ℕ) (e : JournalEntry) (s : State) → HasFew n s → AllowsEntry n e s → IsSoundState s → IsFaithfulState s → IsBesideState s → IsBesideState (replay.step n s e)
 entry_beside n e s w a h f k = record {
   now = elim e.failed as (λ b. IsBeside (unless b (after e.step) s.now)) [ true ↦ k.now | false ↦ beside_kept e.step s.now w.now_limit a.0.1 h.now f.now k.now ];
   other = beside_kept e.step s.other w.other_limit (allowed_other n e s a h) h.other f.other k.other;

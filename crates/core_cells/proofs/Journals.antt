@@ -16,9 +16,7 @@ use Rattle.core_model.specs.declared.opening.Opening.{Opening}
 use Rattle.core_model.specs.declared.region_files.RegionFiles.{RegionFiles}
 use Rattle.core_model.specs.declared.snapshot.CopiedRegion.{CopiedRegion}
 use Rattle.core_model.specs.declared.snapshot.Snapshot.{Snapshot}
-use Rattle.core_model.specs.declared.step.Step.{Step}
-use Rattle.core_model.specs.declared.step.Step.TheVariants as step
-use Rattle.core_model.specs.Allows.{AllowsEntry, AllowsFrom, IsEnding}
+use Rattle.core_model.specs.Allows.{AllowsEntry, AllowsFrom}
 use Rattle.core_model.specs.Disk.{disk_of}
 use Rattle.core_model.specs.Entries.{Made, cells_in}
 use Rattle.core_model.specs.Opened as opened
@@ -40,9 +38,11 @@ use Rattle.core_opens.specs.Fits.{FitsEntries}
 use Rattle.core_opens.proofs.Entered.{entered-map}
 use Rattle.core_opens.proofs.Opens.{begins_valid}
 use Rattle.core_opens.proofs.Read.{snapshot_is, table_is, tables_in}
+use Rattle.core_beside.specs.Apart.{IsBesideState}
+use Rattle.core_beside.proofs.Journals.{entry_beside, opened_beside}
 use Rattle.core_regions.specs.Cover.{HaveLimits, HasLimits, IsCoveredState}
 use Rattle.core_regions.proofs.Journals.{entry_covered, entry_written, limits_front, opened_covered}
-use Rattle.core_cells.specs.Cells.{AreCellsOf, CopyHolds, HasCells, HasCellsState, LeadsToCells, LoadFrom, LoadsFit}
+use Rattle.core_cells.specs.Cells.{AreCellsOf, CopyHolds, HasCells, HasCellsState, LeadsToCells}
 use Rattle.core_cells.proofs.Held.{copied_cells, once-two}
 use Rattle.core_cells.proofs.Kept.{cells_kept}
 
@@ -82,40 +82,29 @@ opened_cells o tree c = record {
   snapshots = record { at = opened_shot o tree c };
   loads = record { at = λ b a n e. absurd (cc); apart = λ b d a e n x. absurd (cc) };
   bulk = record { whole = λ a b folder name m. absurd m; cut = λ a b name m. absurd m };
+  filled = record { whole = λ a b folder name m. absurd m; cut = λ a b name m. absurd m };
+  pieces = record { at = λ name w source start end e. absurd (cc) };
 }
 
 -- ---- entries
 
-ending_fits : (p : Step) (s : Parts) → IsEnding p → LoadsFit p s
-ending_fits (step.End actor refusal) s i = tt
-ending_fits (step.Abandon actor) s i = tt
-ending_fits (step.Unpin actor) s i = tt
-ending_fits _ s i = absurd i
-
-pub loads_other : (n : ℕ) (e : JournalEntry) (s : State) → AllowsEntry n e s → IsSoundState s → LoadsFit e.step s.now → LoadsFit e.step s.other
-loads_other n e s a h l = elim a.1 [ inl c ↦ subst (LoadsFit e.step) (sym (h.one c.0)) l | inr c ↦ ending_fits e.step s.other c.2 ]
-
-pub loads_front : (k n : ℕ) (es : List JournalEntry) (s : State) → LoadFrom n s es → LoadFrom n s (take k es)
-loads_front zero n es s l = tt
-loads_front (suc k) n [] s l = tt
-loads_front (suc k) n (e ∷ es) s l = (l.0, loads_front k (n + 1) es (replay.step n s e) l.1)
-
-pub entry_cells : (n : ℕ) (e : JournalEntry) (s : State) → HasFew n s → HasLimits e.step → LoadsFit e.step s.now → AllowsEntry n e s → IsSoundState s → IsWrittenState s → IsFaithfulState s → IsCoveredState s → HasCellsState s → HasCellsState (replay.step n s e)
-entry_cells n e s w m l a h i f v k = record {
-  now = elim e.failed as (λ b. HasCells (unless b (after e.step) s.now)) [ true ↦ k.now | false ↦ cells_kept e.step s.now w.now_limit m l a.0.1 h.now i.now f.now v.now k.now ];
-  other = cells_kept e.step s.other w.other_limit m (loads_other n e s a h l) (allowed_other n e s a h) h.other i.other f.other v.other k.other;
+entry_cells : (n : ℕ) (e : JournalEntry) (s : State) → HasFew n s → HasLimits e.step → AllowsEntry n e s → IsSoundState s → IsWrittenState s → IsFaithfulState s → IsBesideState s → IsCoveredState s → HasCellsState s → HasCellsState (replay.step n s e)
+entry_cells n e s w m a h i f b v k = record {
+  now = elim e.failed as (λ o. HasCells (unless o (after e.step) s.now)) [ true ↦ k.now | false ↦ cells_kept e.step s.now w.now_limit m a.0.1 h.now i.now f.now b.now v.now k.now ];
+  other = cells_kept e.step s.other w.other_limit m (allowed_other n e s a h) h.other i.other f.other b.other v.other k.other;
 }
 
-cells_from : (n : ℕ) (es : List JournalEntry) (s : State) → HasFew n s → HaveLimits es → LoadFrom n s es → AllowsFrom n s es → WriteFrom n s es → IsSoundState s → IsWrittenState s → IsFaithfulState s → IsCoveredState s → HasCellsState s → HasCellsState (replay_from n s es)
-cells_from n [] s w m l a x h i f v k = k
-cells_from n (e ∷ es) s w m l a x h i f v k = cells_from (n + 1) es (replay.step n s e) (few_after n e s a.0 w) m.1 l.1 a.1 x.1 (entry_kept n e s w a.0 h) (entry_written n e s w a.0 x.0 h i) (entry_faithful n e s w a.0 h f)
-    (entry_covered n e s w m.0 a.0 h i f v) (entry_cells n e s w m.0 l.0 a.0 h i f v k)
+cells_from : (n : ℕ) (es : List JournalEntry) (s : State) → HasFew n s → HaveLimits es → AllowsFrom n s es → WriteFrom n s es → IsSoundState s → IsWrittenState s → IsFaithfulState s → IsBesideState s → IsCoveredState s → HasCellsState s → HasCellsState (replay_from n s es)
+cells_from n [] s w m a x h i f b v k = k
+cells_from n (e ∷ es) s w m a x h i f b v k = cells_from (n + 1) es (replay.step n s e) (few_after n e s a.0 w) m.1 a.1 x.1 (entry_kept n e s w a.0 h) (entry_written n e s w a.0 x.0 h i) (entry_faithful n e s w a.0 h f)
+    (entry_beside n e s w a.0 h f b) (entry_covered n e s w m.0 a.0 h i f v) (entry_cells n e s w m.0 a.0 h i f b v k)
 
 pub cells_replay : (o : Opening) (tree : Tree) (es : List JournalEntry) (k : ℕ) → LeadsToCells o tree es k
 unfolding replay
-cells_replay o tree es k c m l a x =
+cells_replay o tree es k c m a x =
     let b = begins_valid o tree c in
     let h = opened_cells o tree c in
     let v = opened_covered o tree c in
-    cells_from 0 (take k es) (begun o) (few-begun o) (limits_front k es m) (loads_front k 0 es (begun o) l) (allows_front k 0 es (begun o) a) (writes_front k 0 es (begun o) x) (sound-begun o b.begins.sound)
-    (record { now = b.written; other = b.written }) (record { now = b.told.faithful; other = b.told.faithful }) (record { now = v; other = v }) (record { now = h; other = h })
+    let d = opened_beside o tree c in
+    cells_from 0 (take k es) (begun o) (few-begun o) (limits_front k es m) (allows_front k 0 es (begun o) a) (writes_front k 0 es (begun o) x) (sound-begun o b.begins.sound)
+    (record { now = b.written; other = b.written }) (record { now = b.told.faithful; other = b.told.faithful }) (record { now = d; other = d }) (record { now = v; other = v }) (record { now = h; other = h })

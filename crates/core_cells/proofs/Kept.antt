@@ -31,20 +31,23 @@ use Rattle.core_model.specs.FileChanges.{snapshots_by}
 use Rattle.core_model.specs.Keys.{home}
 use Rattle.core_model.specs.SetGuards.{IsChange}
 use Rattle.core_model.specs.Sound.{IsSound}
-use Rattle.core_model.specs.State.{Parts, Placed}
+use Rattle.core_model.specs.State.{Parts}
 use Rattle.core_model.specs.TableChanges.{tables_by}
 use Rattle.core_sound.proofs.LiveKept.{hold_front, hold_without, live_after}
 use Rattle.core_sound.proofs.NeverAgain.{tables_after}
 use Rattle.core_sound.proofs.Tests.{cond_cases}
+use Rattle.core_bytes.specs.Written.{IsWritten}
 use Rattle.core_contents.specs.Faithful.{IsFaithful}
 use Rattle.core_contents.proofs.CopiesKept.{change_snapshots}
 use Rattle.core_contents.proofs.Tools.{set_here}
+use Rattle.core_beside.specs.Apart.{IsBeside}
 use Rattle.core_regions.specs.Cover.{IsCovered}
-use Rattle.core_cells.specs.Cells.{BulkNumbered, CapturesHold, HasCells, IsNumbered, KeepsCells, LoadsFit, LoadsNumbered, RegionsHold, SnapshotsHold}
+use Rattle.core_cells.specs.Cells.{BulkNumbered, CapturesHold, HasCells, IsNumbered, KeepsCells, LoadsNumbered, RegionsHold, SnapshotsHold}
 use Rattle.core_cells.proofs.Changed.{change_holds}
 use Rattle.core_cells.proofs.Copies.{captured_holds, change_captures, complete_holds, delete_holds, ended_captures}
-use Rattle.core_cells.proofs.Loads.{Numbered, bulk_kept, change_new, draw_new, fewer_loads, flush_new, load_new, major_new, place_loads, put_new, written_none}
+use Rattle.core_cells.proofs.Loads.{Numbered, bulk_kept, change_new, draw_new, fewer_loads, flush_new, load_new, major_new, place_loads, placed_less, put_new, written_none}
 use Rattle.core_cells.proofs.Regions.{draw_region, flush_region, load_region, major_region, put_region}
+use Rattle.core_cells.proofs.Sources.{bulk_filled, pieces_cut}
 
 -- ---- what a step makes of the plain machine
 
@@ -56,19 +59,19 @@ table_own s t tb i split h e m = ap (get s.plain.tables) (h.own_regions.at t tb 
 
 -- ---- regions
 
-regions_hold : (p : Step) (s : Parts) → LoadsFit p s → Allows p s → IsSound s → IsFaithful s → IsCovered s → HasCells s
+regions_hold : (p : Step) (s : Parts) → Allows p s → IsSound s → IsWritten s → IsFaithful s → IsBeside s → IsCovered s → HasCells s
     → RegionsHold (tables_by p s.plain.snapshots s.plain.tables) (after_plain p s).stable (after_plain p s).mem (after_plain p s).kept (after_plain p s).seq
-regions_hold (step.PutCell who table put moment (Some joined)) s l a h f v k = record { at = λ t tb i split e m. put_region table put moment joined s tb i split a h v (table_own s t tb i split h e m) m (k.regions.at t tb i split e m) }
-regions_hold (step.Place actor (moves.WrittenBulk name) base cells) s l a h f v k = record { at = λ t tb i split e m. draw_region (home base) s tb i (k.regions.at t tb i split e m) }
-regions_hold (step.Place actor (moves.StagedBulk folder name) base cells) s l a h f v k = record { at = λ t tb i split e m. draw_region (home base) s tb i (k.regions.at t tb i split e m) }
-regions_hold (step.CommitList actor region number name why.Flush list cells more) s l a h f v k = record { at = λ t tb i split e m. flush_region region s tb i (k.regions.at t tb i split e m) }
-regions_hold (step.CommitList actor region number name why.Capture list cells more) s l a h f v k = record { at = λ t tb i split e m. flush_region region s tb i (k.regions.at t tb i split e m) }
-regions_hold (step.CommitList actor region number name (why.Compact true) list cells more) s l a h f v k = record { at = λ t tb i split e m. major_region region (families_in (get s.plain.tables region.table)) (unwrap_or (s.plain.noted actor.0 region) 0) s tb i (k.regions.at t tb i split e m) }
-regions_hold (step.CommitList actor region number name why.Bulk list cells more) s l a h f v k = record { at = λ t tb i split e m. load_region actor.0 region list cells more s tb i split a.allowed l k (table_own s t tb i split h e m) m (k.regions.at t tb i split e m) }
-regions_hold (step.CommitRegions actor table number name set change) s l a h f v k = record { at = change_holds change table actor.0 s a.is_change a.once h f v k }
-regions_hold (step.Start who job (started.Live actor) drawn) s l a h f v k = k.regions
-regions_hold (step.Pin actor target (Ok region) true) s l a h f v k = k.regions
-regions_hold _ s l a h f v k = k.regions
+regions_hold (step.PutCell who table put moment (Some joined)) s a h w f b v k = record { at = λ t tb i split e m. put_region table put moment joined s tb i split a h v (table_own s t tb i split h e m) m (k.regions.at t tb i split e m) }
+regions_hold (step.Place actor (moves.WrittenBulk name) base cells) s a h w f b v k = record { at = λ t tb i split e m. draw_region (home base) s tb i (k.regions.at t tb i split e m) }
+regions_hold (step.Place actor (moves.StagedBulk folder name) base cells) s a h w f b v k = record { at = λ t tb i split e m. draw_region (home base) s tb i (k.regions.at t tb i split e m) }
+regions_hold (step.CommitList actor region number name why.Flush list cells more) s a h w f b v k = record { at = λ t tb i split e m. flush_region region s tb i (k.regions.at t tb i split e m) }
+regions_hold (step.CommitList actor region number name why.Capture list cells more) s a h w f b v k = record { at = λ t tb i split e m. flush_region region s tb i (k.regions.at t tb i split e m) }
+regions_hold (step.CommitList actor region number name (why.Compact true) list cells more) s a h w f b v k = record { at = λ t tb i split e m. major_region region (families_in (get s.plain.tables region.table)) (unwrap_or (s.plain.noted actor.0 region) 0) s tb i (k.regions.at t tb i split e m) }
+regions_hold (step.CommitList actor region number name why.Bulk list cells more) s a h w f b v k = record { at = λ t tb i split e m. load_region actor.0 region list cells more s tb i split a.allowed w b v k (table_own s t tb i split h e m) m (k.regions.at t tb i split e m) }
+regions_hold (step.CommitRegions actor table number name set change) s a h w f b v k = record { at = change_holds change table actor.0 s a.is_change a.once h f v k }
+regions_hold (step.Start who job (started.Live actor) drawn) s a h w f b v k = k.regions
+regions_hold (step.Pin actor target (Ok region) true) s a h w f b v k = k.regions
+regions_hold _ s a h w f b v k = k.regions
 
 -- ---- captures
 
@@ -164,13 +167,9 @@ loads_numbered _ s a h k = k.loads
 
 none_placed : (a : ℕ) (s : Parts) → HasCells s → BulkNumbered (λ w. cond (w == a) [] (s.placed w))
 none_placed a s k = record {
-  whole = λ w b folder name m. k.bulk.whole w b folder name (fewer (w == a) (s.placed w) _ m);
-  cut = λ w b name m. k.bulk.cut w b name (fewer (w == a) (s.placed w) _ m);
+  whole = λ w b folder name m. k.bulk.whole w b folder name (placed_less (w == a) (s.placed w) _ m);
+  cut = λ w b name m. k.bulk.cut w b name (placed_less (w == a) (s.placed w) _ m);
 }
-  where
-    fewer : (c : Bool) (xs : List Placed) (x : Placed) → Member x (cond c [] xs) → Member x xs
-    fewer true xs x m = absurd m
-    fewer false xs x m = m
 
 bulk_numbered : (p : Step) (s : Parts) → Allows p s → IsSound s → HasCells s → BulkNumbered (placed_by p s.placed)
 bulk_numbered (step.Place actor source base cells) s a h k = bulk_kept actor.0 source base cells s a h k
@@ -179,10 +178,12 @@ bulk_numbered (step.Abandon actor) s a h k = none_placed actor.0 s k
 bulk_numbered _ s a h k = k.bulk
 
 pub cells_kept : (p : Step) (s : Parts) → KeepsCells p s
-cells_kept p s few m l a h w f v k = record {
-  regions = subst (λ t. RegionsHold t (after_plain p s).stable (after_plain p s).mem (after_plain p s).kept (after_plain p s).seq) (sym (tables_after p s)) (regions_hold p s l a h f v k);
+cells_kept p s few m a h w f b v k = record {
+  regions = subst (λ t. RegionsHold t (after_plain p s).stable (after_plain p s).mem (after_plain p s).kept (after_plain p s).seq) (sym (tables_after p s)) (regions_hold p s a h w f b v k);
   captures = subst (λ t. CapturesHold t (after_plain p s).captures) (sym (tables_after p s)) (captures_hold p s a h f k);
   snapshots = snapshots_hold p s a h f k;
   loads = subst (λ t. LoadsNumbered (waiting_by p s.waiting) (after_plain p s).live t (after_plain p s).stable (after_plain p s).mem (after_plain p s).seq) (sym (tables_after p s)) (loads_numbered p s a h k);
   bulk = bulk_numbered p s a h k;
+  filled = bulk_filled p s few a h b k;
+  pieces = pieces_cut p s a k;
 }

@@ -1,8 +1,10 @@
 pub mod Held
 pub mod Numbers
+pub mod Brought
 pub mod Regions
 pub mod Changed
 pub mod Loads
+pub mod Sources
 pub mod Copies
 pub mod Kept
 pub mod Journals

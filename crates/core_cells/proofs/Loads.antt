@@ -41,9 +41,9 @@ use Rattle.core_sound.proofs.Tests.{cond_cases, same_base-self, same_base-true, 
 use Rattle.core_contents.proofs.ChangesLeave.{stays_alike}
 use Rattle.core_regions.proofs.Held.{changer, other_held}
 use Rattle.core_cells.specs.Cells.{BulkNumbered, HasCells, HoldsCells, IsNumbered, LoadsNumbered}
+use Rattle.core_cells.proofs.Brought.{loaded_of}
 use Rattle.core_cells.proofs.Held.{compacted_of, of_drop, of_take}
 use Rattle.core_cells.proofs.Numbers.{numbered, unnumbered}
-use Rattle.core_cells.proofs.Regions.{loaded_of}
 
 abbrev pub Numbered : Parts → Base → ℕ → ℕ → Type 0
 Numbered s b a n = IsNumbered b a n s.plain.live s.plain.tables (s.plain.stable (home b)) (s.plain.mem (home b)) (s.plain.seq (home b))
@@ -219,24 +219,28 @@ fewer_loads waiting less live next tables others stable mem more rest seq later 
 
 -- ---- placed names
 
-abbrev as_placed : Base → MoveFrom → Placed
+abbrev pub as_placed : Base → MoveFrom → Placed
 as_placed b v = record { base = b; from = v }
+
+pub placed_was : (actor : ℕ) (source : MoveFrom) (base : Base) (s : Parts) (w : ℕ) (x : Placed) → Member x (cond (w == actor) (s.placed actor ++ record { base = base; from = source } ∷ []) (s.placed w)) → Member x (s.placed w) ⊎ (as_placed base source ≡ x)
+placed_was actor source base s w x m = (elim (w == actor) as (λ b. w == actor ≡ b → Member x (cond b (s.placed actor ++ record { base = base; from = source } ∷ []) (s.placed w)) → Member x (s.placed w) ⊎ (as_placed base source ≡ x)) [
+  | true ↦ λ d n. elim (member-append x (s.placed actor) (record { base = base; from = source } ∷ []) n) [
+    | inl i ↦ inl (subst (λ v. Member x (s.placed v)) (sym (same_number w actor d)) i)
+    | inr i ↦ elim i [ inl e ↦ inr e | inr z ↦ absurd z ]
+  ]
+  | false ↦ λ d n. inl n
+]) refl m
+
+pub placed_less : (c : Bool) (xs : List Placed) (x : Placed) → Member x (cond c [] xs) → Member x xs
+placed_less true xs x m = absurd m
+placed_less false xs x m = m
 
 pub bulk_kept : (actor : ℕ) (source : MoveFrom) (base : Base) (cells : List Cell) (s : Parts) → CanPlace actor source base cells s → IsSound s → HasCells s → BulkNumbered (λ w. cond (w == actor) (s.placed actor ++ record { base = base; from = source } ∷ []) (s.placed w))
 bulk_kept actor source base cells s g h k = record {
-  whole = λ w b folder name m. elim (placed_was w (record { base = b; from = moves.StagedBulk folder name }) m) [ inl i ↦ k.bulk.whole w b folder name i | inr i ↦ whole_of source g b folder name i ];
-  cut = λ w b name m. elim (placed_was w (record { base = b; from = moves.WrittenBulk name }) m) [ inl i ↦ k.bulk.cut w b name i | inr i ↦ cut_of source g b name i ];
+  whole = λ w b folder name m. elim (placed_was actor source base s w (record { base = b; from = moves.StagedBulk folder name }) m) [ inl i ↦ k.bulk.whole w b folder name i | inr i ↦ whole_of source g b folder name i ];
+  cut = λ w b name m. elim (placed_was actor source base s w (record { base = b; from = moves.WrittenBulk name }) m) [ inl i ↦ k.bulk.cut w b name i | inr i ↦ cut_of source g b name i ];
 }
   where
-    placed_was : (w : ℕ) (x : Placed) → Member x (cond (w == actor) (s.placed actor ++ record { base = base; from = source } ∷ []) (s.placed w)) → Member x (s.placed w) ⊎ (as_placed base source ≡ x)
-    placed_was w x m = (elim (w == actor) as (λ b. w == actor ≡ b → Member x (cond b (s.placed actor ++ record { base = base; from = source } ∷ []) (s.placed w)) → Member x (s.placed w) ⊎ (as_placed base source ≡ x)) [
-      | true ↦ λ d n. elim (member-append x (s.placed actor) (record { base = base; from = source } ∷ []) n) [
-        | inl i ↦ inl (subst (λ v. Member x (s.placed v)) (sym (same_number w actor d)) i)
-        | inr i ↦ elim i [ inl e ↦ inr e | inr z ↦ absurd z ]
-      ]
-      | false ↦ λ d n. inl n
-    ]) refl m
-
     whole_of : (v : MoveFrom) → CanPlace actor v base cells s → (b : Base) (folder name : List ℕ) → as_placed base v ≡ as_placed b (moves.StagedBulk folder name) → (n : ℕ) × (seq_of b.name ≡ Some n)
     whole_of (moves.StagedBulk d m) p b folder name e = let q = p.number in (s.plain.seq (home base) + 1, ap (λ (x : Placed). seq_of x.base.name) (sym e) ∙ ap seq_of p.moved.named ∙ numbered s.epoch s.files (s.plain.seq (home base) + 1) (omega (arith, q)))
     whole_of (moves.WrittenBulk m) p b folder name e = absurd (not_whole (ap (λ (x : Placed). x.from) e))

@@ -1,13 +1,12 @@
 -- Each step keeps that regions hold their cells, but for changes of tables.
-use Rattle.std.proofs.Common.{◌≡◌, ℕ, ◌+◌, Bool, true, false, not, cond, List, [], ◌∷◌, ◌++◌, take, drop, Option, Some, None, refl, sym, ap, ◌∙◌, subst, inl, inr, arith}
-use Rattle.std.specs.Prelude.{map, unwrap_or}
+use Rattle.std.proofs.Common.{◌≡◌, ℕ, ◌+◌, Bool, true, false, not, cond, List, [], ◌∷◌, ◌++◌, take, drop, Option, Some, refl, sym, ap, ◌∙◌, subst, inl, inr, arith}
+use Rattle.std.specs.Prelude.{unwrap_or}
 use Rattle.std.specs.List.{list_any}
 use Rattle.std.specs.FinMap.{get}
 use Rattle.cell_sight.specs.Member.{Member}
 use Rattle.cell_sight.proofs.Truths.{any_some, turned}
 use Rattle.hb_cell.specs.declared.cell.Cell.{Cell}
 use Rattle.hb_cell.specs.Order.{same_bytes}
-use Rattle.hb_layout.specs.declared.base.Base.{Base}
 use Rattle.hb_records.specs.declared.region_info.RegionInfo.{RegionInfo}
 use Rattle.plain_model.specs.declared.job.Job.TheVariants as jobs
 use Rattle.plain_model.specs.declared.parts.PlainTable.{PlainTable}
@@ -22,28 +21,24 @@ use Rattle.plain_model.specs.Puts.{cell_put}
 use Rattle.plain_model.specs.Replies.{no_files, refusals}
 use Rattle.plain_model.specs.Rows.{holds_row, open_of}
 use Rattle.core_model.specs.declared.entry.Entry.{Entry}
-use Rattle.core_model.specs.declared.entry.Entry.TheVariants.{Own}
 use Rattle.core_model.specs.declared.region_files.RegionFiles.{RegionFiles}
-use Rattle.core_model.specs.declared.targets.MoveFrom.{MoveFrom}
-use Rattle.core_model.specs.declared.targets.MoveFrom.TheVariants as moves
-use Rattle.core_model.specs.BulkParts.{ComesFrom, IsPartFile, is_whole, parts_of}
-use Rattle.core_model.specs.Entries.{cells_of, seq_of, serves, with_seq}
 use Rattle.core_model.specs.Keys.{home}
 use Rattle.core_model.specs.ListGuards.{Loads}
 use Rattle.core_model.specs.Sound.{IsSound}
 use Rattle.core_model.specs.StartGuards.{CanPut}
 use Rattle.core_model.specs.State.{Parts}
-use Rattle.cell_sight.proofs.Members.{of_filter}
 use Rattle.core_sound.proofs.HoldsFound.{some_is}
 use Rattle.core_sound.proofs.Lists.{map_some, member-find}
-use Rattle.core_sound.proofs.Sources.{map-member, open-member, zip-member}
+use Rattle.core_sound.proofs.Sources.{open-member}
 use Rattle.core_sound.proofs.Tests.{same_bytes-true, same_key-true}
 use Rattle.core_sound.proofs.Vacant.{Refuse, holds_not, not_when}
-use Rattle.core_contents.proofs.Majored.{cell-entry}
+use Rattle.core_bytes.specs.Written.{IsWritten}
+use Rattle.core_beside.specs.Apart.{IsBeside}
 use Rattle.core_regions.specs.Cover.{IsCovered}
 use Rattle.core_regions.proofs.Counted.{differ_same}
 use Rattle.core_regions.proofs.Starts.{find-holds}
-use Rattle.core_cells.specs.Cells.{BulkNumbered, FitsLoad, HasCells, HoldsCells, IsCellOf, IsNumbered}
+use Rattle.core_cells.specs.Cells.{HasCells, HoldsCells, IsCellOf, IsNumbered}
+use Rattle.core_cells.proofs.Brought.{ComesOf, brought, brought_once, loaded_of}
 use Rattle.core_cells.proofs.Held.{draw_cells, flush_cells, load_cells, major_cells, put_cells}
 
 -- ---- regions of a table
@@ -123,51 +118,29 @@ major_region r fs n s tb i x = (elim (same_key (key_of i) r) as (λ b. same_key 
 
 -- ---- a load
 
--- a file of a load has a number in its name
-part_numbered : (a : ℕ) (folder : List ℕ) (i : RegionInfo) (f : List ℕ × List ℕ) (b : Base) (s : Parts) → BulkNumbered s.placed → IsPartFile a folder i f b s → (n : ℕ) × (seq_of b.name ≡ Some n)
-part_numbered a folder i f b s h x = by_source x.source (is_whole s.staged folder i f) x.placed x.comes
-  where
-    by_source : (source : MoveFrom) (whole : Bool) → Member (record { base = b; from = source }) (s.placed a) → ComesFrom source whole folder i f s.written → (n : ℕ) × (seq_of b.name ≡ Some n)
-    by_source (moves.StagedBulk d name) whole m c = h.whole a b d name m
-    by_source (moves.WrittenBulk name) whole m c = h.cut a b name m
-    by_source (moves.Written name) true m c = absurd c
-    by_source (moves.Written name) false m c = absurd c
-
--- a cell of it has this number
-own_number : (o : Option ℕ) (n : ℕ) (c d : Cell) → o ≡ Some n → with_seq o c ≡ d → d.seq ≡ n
-own_number (Some m) n c d e z = ap (λ (x : Cell). x.seq) (sym z) ∙ some_is e
-own_number None n c d e z = absurd (cc)
-
--- the file of a load from which a cell comes
-pub record ComesOf (a : ℕ) (r : RegionKey) (s : Parts) (added : List Base) (c : Cell) : Type 0 where
-  pub base : Base
-  pub listed : Member base added
-  pub waiting : s.waiting base ≡ Some a
-  pub region : home base ≡ r
-  pub named : seq_of base.name ≡ Some c.seq
-
-pub loaded_of : (a : ℕ) (r : RegionKey) (l : RegionFiles) (cells : List Cell) (more : List (List ℕ × Entry)) (s : Parts) (g : Loads a r l cells more s) → BulkNumbered s.placed → (c : Cell) → Member c cells → ComesOf a r s g.added c
-loaded_of a r l cells more s g h c m =
-    let w = cell-entry s.made (map Own g.added) c (subst (Member c) g.joins m) in
-    let v = map-member Own w.0 g.added w.1 in
-    let x = subst (λ (e : Entry). Member c (cells_of s.made e)) (sym v.2) w.2 in
-    let y = map-member (with_seq (seq_of v.0.name)) c (unwrap_or (s.made v.0) []) (of_filter (serves (Own v.0)) c _ x).0 in
-    let z = zip-member _ (parts_of s.staged g.folder g.is_open.info (s.loads a)) g.added v.0 g.files v.1 in
-    let n = part_numbered a g.folder g.is_open.info z.0 v.0 s h z.1.0 in
-    record { base = v.0; listed = v.1; waiting = z.1.1; region = z.1.0.region ∙ g.is_open.key; named = n.1 ∙ ap Some (sym (own_number (seq_of v.0.name) n.0 y.0 c n.1 y.2)) }
-
-pub load_region : (a : ℕ) (r : RegionKey) (l : RegionFiles) (cells : List Cell) (more : List (List ℕ × Entry)) (s : Parts) (tb : PlainTable) (i : RegionInfo) (split : Bool) → Loads a r l cells more s → FitsLoad r cells s.plain.tables → HasCells s → get s.plain.tables i.table ≡ Some tb → Member (i, split) tb.regions → Holds s.plain tb i
+pub load_region : (a : ℕ) (r : RegionKey) (l : RegionFiles) (cells : List Cell) (more : List (List ℕ × Entry)) (s : Parts) (tb : PlainTable) (i : RegionInfo) (split : Bool) → Loads a r l cells more s → IsWritten s → IsBeside s → IsCovered s → HasCells s → get s.plain.tables i.table ≡ Some tb → Member (i, split) tb.regions → Holds s.plain tb i
     → HoldsCells i tb.schema.families (cond (same_key (key_of i) r) (s.plain.stable r ++ cells) (s.plain.stable (key_of i))) (s.plain.mem (key_of i)) (cond (same_key (key_of i) r) (greatest (s.plain.kept r) cells) (s.plain.kept (key_of i))) (s.plain.seq (key_of i))
-load_region a r l cells more s tb i split g f k e m x = (elim (same_key (key_of i) r) as (λ b. same_key (key_of i) r ≡ b → HoldsCells i tb.schema.families (cond b (s.plain.stable r ++ cells) (s.plain.stable (key_of i))) (s.plain.mem (key_of i)) (cond b (greatest (s.plain.kept r) cells) (s.plain.kept (key_of i))) (s.plain.seq (key_of i))) [
+load_region a r l cells more s tb i split g w b v k e m x = (elim (same_key (key_of i) r) as (λ b. same_key (key_of i) r ≡ b → HoldsCells i tb.schema.families (cond b (s.plain.stable r ++ cells) (s.plain.stable (key_of i))) (s.plain.mem (key_of i)) (cond b (greatest (s.plain.kept r) cells) (s.plain.kept (key_of i))) (s.plain.seq (key_of i))) [
   | true ↦ λ d.
       let q = same_key-true (key_of i) r d in
-      let of : (c : Cell) → Member c cells → ComesOf a r s g.added c = λ c n. loaded_of a r l cells more s g k.bulk c n in
-      let num : (c : Cell) (n : Member c cells) → IsNumbered (of c n).base a c.seq s.plain.live s.plain.tables (s.plain.stable (home (of c n).base)) (s.plain.mem (home (of c n).base)) (s.plain.seq (home (of c n).base)) = λ c n. (let w = of c n in k.loads.at w.base a c.seq w.waiting w.named) in
-      subst (λ v. HoldsCells i tb.schema.families (s.plain.stable v ++ cells) (s.plain.mem (key_of i)) (greatest (s.plain.kept v) cells) (s.plain.seq (key_of i))) q
+      let of : (c : Cell) → Member c cells → ComesOf a r s g.folder g.is_open.info g.added c = λ c n. loaded_of a r l cells more s g k.bulk c n in
+      let num : (c : Cell) (n : Member c cells) → IsNumbered (of c n).base a c.seq s.plain.live s.plain.tables (s.plain.stable (home (of c n).base)) (s.plain.mem (home (of c n).base)) (s.plain.seq (home (of c n).base)) = λ c n. (let y = of c n in k.loads.at y.base a c.seq y.waiting y.named) in
+      let there : tb ≡ g.is_open.table = some_is (sym e ∙ ap (λ (z : RegionKey). get s.plain.tables z.table) q ∙ g.is_open.stands) in
+      let here : g.is_open.info ≡ i = one_region s tb i g.is_open.info split v e m (subst (λ (z : PlainTable). Member (g.is_open.info, false) z.regions) (sym there) g.is_open.listed) (g.is_open.key ∙ sym q) in
+      subst (λ z. HoldsCells i tb.schema.families (s.plain.stable z ++ cells) (s.plain.mem (key_of i)) (greatest (s.plain.kept z) cells) (s.plain.seq (key_of i))) q
       (load_cells i tb.schema.families (s.plain.stable (key_of i)) (s.plain.mem (key_of i)) (s.plain.kept (key_of i)) (s.plain.seq (key_of i)) cells
-      (λ c n. let y = f.each tb i split c (ap (get s.plain.tables) (sym (ap (λ (v : RegionKey). v.table) q)) ∙ e) m q n in let u = (num c n).drawn in let z = ap s.plain.seq ((of c n).region ∙ sym q) in record { versions = y.0; known = y.1; row = y.2; number = omega (arith, u, z) })
-      f.once
-      (λ c b n o. (num c n).no_file b (subst (λ v. Member b (s.plain.stable v)) (q ∙ sym (of c n).region) o))
-      (λ c b n o. (num c n).no_wait b (subst (λ v. Member b (s.plain.mem v)) (q ∙ sym (of c n).region) o)) x)
+      (λ c n. let y = brought a r l cells more s g w k c n in let u = (num c n).drawn in let z = ap s.plain.seq ((of c n).region ∙ sym q) in record {
+        versions = y.0;
+        known = subst (λ (z : PlainTable). Member (c.family, y.0) z.schema.families) (sym there) y.1;
+        row = ap (λ (z : RegionInfo). holds_row z c.row) (sym here) ∙ y.2;
+        number = omega (arith, u, z);
+      })
+      (brought_once a r l cells more s g b k)
+      (λ c b n o. (num c n).no_file b (subst (λ z. Member b (s.plain.stable z)) (q ∙ sym (of c n).region) o))
+      (λ c b n o. (num c n).no_wait b (subst (λ z. Member b (s.plain.mem z)) (q ∙ sym (of c n).region) o)) x)
   | false ↦ λ d. x
 ]) refl
+  where
+    -- a table has one region of a key
+    one_region : (s : Parts) (tb : PlainTable) (i j : RegionInfo) (split : Bool) → IsCovered s → get s.plain.tables i.table ≡ Some tb → Member (i, split) tb.regions → Member (j, false) tb.regions → key_of j ≡ key_of i → j ≡ i
+    one_region s tb i j split v e m n q = ap (λ (z : RegionInfo × Bool). z.0) (differ_same tb.regions (j, false) (i, split) (v.tables.at i.table tb e).differ n m (ap (λ (z : RegionKey). z.region) q))

@@ -1,11 +1,11 @@
 -- That the cells of regions lie within them, and differ.
-use Rattle.std.specs.Prelude.{◌≡◌, ◌≢◌, ℕ, ◌+◌, ◌≤◌, Bool, true, List, [], ◌∷◌, count_by, take, Option, Some}
+use Rattle.std.specs.Prelude.{◌≡◌, ◌≢◌, ℕ, ◌≤◌, Bool, true, not, ◌&&◌, List, [], ◌∷◌, count_by, take, Option, Some}
 use Rattle.std.specs.List.{AllZip}
 use Rattle.std.specs.FinMap.{get}
 use Rattle.std.specs.Ordering.{eq_by_cmp}
 use Rattle.cell_sight.specs.Member.{Member}
 use Rattle.hb_cell.specs.declared.cell.Cell.{Cell}
-use Rattle.hb_cell.specs.Order.{key_cmp}
+use Rattle.hb_cell.specs.Order.{is_below, key_cmp}
 use Rattle.hb_layout.specs.declared.base.Base.{Base}
 use Rattle.hb_records.specs.declared.region_info.RegionInfo.{RegionInfo}
 use Rattle.ns_tree.specs.Tree.{Tree}
@@ -17,26 +17,26 @@ use Rattle.plain_model.specs.declared.parts.RegionCopy.{RegionCopy}
 use Rattle.plain_model.specs.declared.region_key.RegionKey.{RegionKey}
 use Rattle.plain_model.specs.Keys.{key_of}
 use Rattle.plain_model.specs.Names.{Names}
-use Rattle.plain_model.specs.Rows.{holds_row}
+use Rattle.plain_model.specs.Rows.{holds_row, is_before_end}
 use Rattle.core_model.specs.declared.journal.JournalEntry.{JournalEntry}
 use Rattle.core_model.specs.declared.opening.Opening.{Opening}
+use Rattle.core_model.specs.declared.recipe.Recipe.TheVariants as recipes
 use Rattle.core_model.specs.declared.snapshot.CopiedRegion.{CopiedRegion}
 use Rattle.core_model.specs.declared.snapshot.Snapshot.{Snapshot}
 use Rattle.core_model.specs.declared.step.Step.{Step}
-use Rattle.core_model.specs.declared.step.Step.TheVariants as step
 use Rattle.core_model.specs.declared.targets.MoveFrom.TheVariants as moves
-use Rattle.core_model.specs.declared.targets.Why.TheVariants as why
 use Rattle.core_model.specs.Actors.{HasHold, IsRegion}
 use Rattle.core_model.specs.Allows.{Allows, AllowsAll}
-use Rattle.core_model.specs.Entries.{seq_of}
+use Rattle.core_model.specs.Entries.{Made, seq_of, stem}
 use Rattle.core_model.specs.Keys.{home}
 use Rattle.core_model.specs.Replay.{after, begun, replay}
-use Rattle.core_model.specs.Replay as replay
+use Rattle.core_model.specs.Recipes.{staged_cells}
 use Rattle.core_model.specs.Sound.{IsSound}
-use Rattle.core_model.specs.State.{Parts, Placed, State}
+use Rattle.core_model.specs.State.{Parts, Placed, StagedCells, State, Written}
 use Rattle.core_bytes.specs.Laws.{WriteFrom}
 use Rattle.core_bytes.specs.Written.{IsWritten}
 use Rattle.core_contents.specs.Faithful.{IsFaithful}
+use Rattle.core_beside.specs.Apart.{IsBeside}
 use Rattle.core_opens.specs.Begins.{CanBegin}
 use Rattle.core_opens.specs.Fits.{EachTwo}
 use Rattle.core_regions.specs.Cover.{HaveLimits, HasLimits, IsCovered}
@@ -102,39 +102,34 @@ pub record BulkNumbered (placed : ℕ → List Placed) : Type 0 where
   pub whole : (a : ℕ) (b : Base) (folder name : List ℕ) → Member (record { base = b; from = moves.StagedBulk folder name }) (placed a) → (n : ℕ) × (seq_of b.name ≡ Some n)
   pub cut : (a : ℕ) (b : Base) (name : List ℕ) → Member (record { base = b; from = moves.WrittenBulk name }) (placed a) → (n : ℕ) × (seq_of b.name ≡ Some n)
 
+-- it has the cells of the staged file, or the digits of the piece that was written
+pub record BulkFilled (placed : ℕ → List Placed) (staged : StagedCells) (made : Made) : Type 0 where
+  pub whole : (a : ℕ) (b : Base) (folder name : List ℕ) → Member (record { base = b; from = moves.StagedBulk folder name }) (placed a) → made b ≡ Some (staged_cells staged folder b.family name)
+  pub cut : (a : ℕ) (b : Base) (name : List ℕ) → Member (record { base = b; from = moves.WrittenBulk name }) (placed a) → stem b.name ≡ name
+
+-- a written piece has cells of its rows alone
+pub record PiecesCut (written : List ℕ → Option Written) : Type 0 where
+  pub at : (name : List ℕ) (w : Written) (source start : List ℕ) (end : Option (List ℕ)) → written name ≡ Some w → w.recipe ≡ recipes.Piece source start end
+      → (c : Cell) → Member c w.cells → (not (is_below c.row start) && is_before_end c.row end) ≡ true
+
 pub record HasCells (s : Parts) : Type 0 where
   pub regions : RegionsHold s.plain.tables s.plain.stable s.plain.mem s.plain.kept s.plain.seq
   pub captures : CapturesHold s.plain.tables s.plain.captures
   pub snapshots : SnapshotsHold s.snapshots s.plain.snapshots
   pub loads : LoadsNumbered s.waiting s.plain.live s.plain.tables s.plain.stable s.plain.mem s.plain.seq
   pub bulk : BulkNumbered s.placed
+  pub filled : BulkFilled s.placed s.staged s.made
+  pub pieces : PiecesCut s.written
 
 -- so it is in both states after a failed operation
 pub record HasCellsState (s : State) : Type 0 where
   pub now : HasCells s.now
   pub other : HasCells s.other
 
--- ---- what no guard asks of a load
-
--- the cells that a load brings to a region are of families of its table and in its rows, and no two of them are equal: the load is
--- refused where a file has cells of another family, or two that are equal but for their number and value
-pub record FitsLoad (r : RegionKey) (cells : List Cell) (tables : Names PlainTable) : Type 0 where
-  pub each : (table : PlainTable) (i : RegionInfo) (split : Bool) (c : Cell) → get tables r.table ≡ Some table → Member (i, split) table.regions → key_of i ≡ r → Member c cells
-      → (versions : ℕ) × Member (c.family, versions) table.schema.families × (holds_row i c.row ≡ true)
-  pub once : AreOnce cells
-
-abbrev pub LoadsFit : Step → Parts → Type 0
-LoadsFit (step.CommitList actor region number name why.Bulk list cells planned) s = FitsLoad region cells s.plain.tables
-LoadsFit _ s = Unit {0}
-
-abbrev pub LoadFrom : ℕ → State → List JournalEntry → Type 0
-LoadFrom n s [] = Unit {0}
-LoadFrom n s (e ∷ es) = LoadsFit e.step s.now × LoadFrom (n + 1) (replay.step n s e) es
-
 -- ---- laws
 
 abbrev pub KeepsCells : Step → Parts → Type 0
-KeepsCells p s = s.files ≤ 4_194_304 → HasLimits p → LoadsFit p s → Allows p s → IsSound s → IsWritten s → IsFaithful s → IsCovered s → HasCells s → HasCells (after p s)
+KeepsCells p s = s.files ≤ 4_194_304 → HasLimits p → Allows p s → IsSound s → IsWritten s → IsFaithful s → IsBeside s → IsCovered s → HasCells s → HasCells (after p s)
 
 abbrev pub LeadsToCells : Opening → Tree → List JournalEntry → ℕ → Type 0
-LeadsToCells o tree es k = CanBegin o tree → HaveLimits es → LoadFrom 0 (begun o) es → AllowsAll o es → WriteFrom 0 (begun o) es → HasCellsState (replay o (take k es))
+LeadsToCells o tree es k = CanBegin o tree → HaveLimits es → AllowsAll o es → WriteFrom 0 (begun o) es → HasCellsState (replay o (take k es))

@@ -37,13 +37,13 @@ told_valid tree s t k f = let e : disk_of tree ≡ s.disk = λ i p. t.shown.show
 }
 
 pub stays_valid : (o : Opening) (tree : Tree) (es : List JournalEntry) (k : ℕ) → StaysValid o tree es k
-stays_valid o tree es k c u names m l a w =
+stays_valid o tree es k c u names m a w =
     let b = begins_valid o tree c in
     let life : IsLife o tree es = record { begins = b.begins; begins_written = b.written; names = names; allowed = a; writes = w } in
     let complete = stays_complete o tree es k c u names a w in
     let beside = beside_replay o tree es k c a in
     let covered = covered_replay o tree es k c m a w in
-    let cells = cells_replay o tree es k c m l a w in
+    let cells = cells_replay o tree es k c m a w in
     let now = now_told o tree es k life b.told in
     let other = other_told o tree es k life b.told in (
       told_valid (trees_after tree (take k es)).now (replay o (take k es)).now now complete.0 (fits (replay o (take k es)).now now.shown.written now.faithful beside.now covered.now cells.now),

@@ -151,6 +151,7 @@ none_split = ap (λ es. flat_map (λ (x : List ℕ × PlainTable). split_keys x.
 pub start_allowed : (ttl : ℕ) → Allows start (t1 ttl)
 start_allowed ttl = record {
   activity = tt;
+  limits = tt;
   unreferenced = [];
   are_unreferenced = none_unreferenced (live_of (t1 ttl).disk) (t1 ttl).plain (λ b f e. absurd (cc)) none_split;
   holds = ap (λ (r : RegionKey). holds.Flush r ∷ []) (sym key_is) ∙ sym (ap (λ (o : Option PlainTable). map holds.Flush (map key_of (open_of (regions_in o)))) table_is);

@@ -89,6 +89,7 @@ plain_name b f e = cond_cases (same_base b base) (Some (record { bytes = []; mom
 pub take_allowed : (ttl : ℕ) → Allows take (u0 ttl)
 take_allowed ttl = record {
   activity = tt;
+  limits = tt;
   unreferenced = [];
   are_unreferenced = none_unreferenced (live_of (u0 ttl).disk) (u0 ttl).plain plain_name none_split;
   holds = refl;

@@ -55,6 +55,7 @@ plain_names b f e = cond_cases (same_base b output) (Some empty_file) None (Some
 pub clean_allowed : (ttl : ℕ) → Allows (clean ttl) (c10 ttl)
 clean_allowed ttl = record {
   activity = tt;
+  limits = tt;
   unreferenced = [];
   are_unreferenced = none_unreferenced (live_of (c10 ttl).disk) (c10 ttl).plain plain_names none_split;
   holds = refl;

@@ -139,6 +139,7 @@ empty_file = record { bytes = []; moment = 0 }
 pub compact_allowed : (ttl : ℕ) → Allows compact (u0 ttl)
 compact_allowed ttl = record {
   activity = tt;
+  limits = tt;
   unreferenced = [];
   are_unreferenced = none_unreferenced (live_of (u0 ttl).disk) (u0 ttl).plain plain_name none_split;
   holds = ap (λ (r : RegionKey). holds.Compact r ∷ []) (sym key_is) ∙ sym (ap (λ (o : Option PlainTable). map holds.Compact (map key_of (open_of (regions_in o)))) table_is);

@@ -242,6 +242,7 @@ is_new ttl (by_directory r (inr m) d) = absurd m
 pub clone_allowed : (ttl : ℕ) → Allows clone (v0 ttl)
 clone_allowed ttl = record {
   activity = tt;
+  limits = tt;
   unreferenced = [];
   are_unreferenced = none_unreferenced (live_of (v0 ttl).disk) (v0 ttl).plain plain_name none_split;
   holds = refl;

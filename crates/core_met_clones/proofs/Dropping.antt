@@ -189,6 +189,7 @@ split_of es = flat_map (λ (x : List ℕ × PlainTable). split_keys x.1) es
 pub disable_allowed : (ttl : ℕ) → Allows disable (w1 ttl)
 disable_allowed ttl = record {
   activity = tt;
+  limits = tt;
   unreferenced = [];
   are_unreferenced = none_unreferenced (live_of (w1 ttl).disk) (w1 ttl).plain plain_names (ap split_of tables2_are);
   holds = refl;
@@ -225,6 +226,7 @@ disabled_is = put_this tables2 (codes "t") disabled
 pub drop_allowed : (ttl : ℕ) → Allows drop (x1 ttl)
 drop_allowed ttl = record {
   activity = tt;
+  limits = tt;
   unreferenced = [];
   are_unreferenced = none_unreferenced (live_of (x1 ttl).disk) (x1 ttl).plain plain_names (ap split_of tables3_are);
   holds = refl;

@@ -1,10 +1,12 @@
 -- The load of both files.
-use Rattle.std.proofs.Common.{◌≡◌, ℕ, ◌&&◌, true, false, cond, List, [], ◌∷◌, Option, Some, None, refl, sym, ap, subst, inl, inr, arith}
-use Rattle.std.specs.Prelude.{codes, not, unwrap_or, is_some}
+use Rattle.std.proofs.Common.{◌≡◌, ◌≤◌, ℕ, ◌+◌, ◌&&◌, Bool, true, false, cond, List, [], ◌∷◌, Option, Some, None, refl, sym, ap, subst, inl, inr, arith}
+use Rattle.std.specs.Prelude.{codes, count_by, not, unwrap_or, is_some}
 use Rattle.std.specs.Fmt.{digits}
+use Rattle.std.specs.Ordering.{eq_by_cmp}
 use Rattle.hex.specs.Hex.{encode_with}
+use Rattle.cell_sight.proofs.Counts.{count-cons}
 use Rattle.hb_cell.specs.declared.cell.Cell.{Cell}
-use Rattle.hb_cell.specs.Order.{same_bytes}
+use Rattle.hb_cell.specs.Order.{key_cmp, same_bytes}
 use Rattle.hb_file_names.specs.FileName.{IsFileName}
 use Rattle.hb_file_names.proofs.FileLemmas.{IsFileName-file_text}
 use Rattle.hb_layout.specs.declared.base.Base.{Base}
@@ -30,7 +32,7 @@ use Rattle.core_model.specs.Allows.{Allows}
 use Rattle.core_model.specs.Disk.{live_of}
 use Rattle.core_model.specs.Entries.{IsBase, region_list}
 use Rattle.core_model.specs.FileGuards.{next_name}
-use Rattle.core_model.specs.ListGuards.{FitsFamily}
+use Rattle.core_model.specs.ListGuards.{FitsFamily, HasNoDouble}
 use Rattle.core_model.specs.Replay.{after}
 use Rattle.core_model.specs.Site.{Staged}
 use Rattle.core_model.specs.StartGuards.{AreStaged}
@@ -152,6 +154,7 @@ are_staged ttl = ((refl, tt), λ family name. (λ m. waits ttl (family, name) m,
 pub load_allowed : (ttl : ℕ) → Allows load (b0 ttl)
 load_allowed ttl = record {
   activity = tt;
+  limits = tt;
   unreferenced = [];
   are_unreferenced = none_unreferenced (live_of (b0 ttl).disk) (b0 ttl).plain (λ b f e. absurd (cc)) none_split;
   holds = refl;
@@ -199,6 +202,15 @@ second_fits : (ttl : ℕ) → FitsFamily (b4 ttl).made second_base
 second_fits ttl c (inl e) = ap (λ (x : Cell). x.family) (sym e)
 second_fits ttl c (inr z) = absurd z
 
+alone : (p : Cell → Bool) (x : Cell) → count_by p (x ∷ []) ≤ 1
+alone p x = elim (p x) as (λ b. count_by p (x ∷ []) ≡ cond b 1 0 + count_by p [] → count_by p (x ∷ []) ≤ 1) [ true ↦ λ e. omega (arith, e) | false ↦ λ e. omega (arith, e) ] (count-cons p x [])
+
+first_once : (ttl : ℕ) → HasNoDouble (b4 ttl).made first_base
+first_once ttl c = alone (eq_by_cmp key_cmp c) (cell_of (codes "f") 1)
+
+second_once : (ttl : ℕ) → HasNoDouble (b4 ttl).made second_base
+second_once ttl c = alone (eq_by_cmp key_cmp c) (cell_of (codes "g") 2)
+
 pub commit_allowed : (ttl : ℕ) → Allows commit (b4 ttl)
 commit_allowed ttl = record {
   next = record {
@@ -211,16 +223,16 @@ commit_allowed ttl = record {
     folder = codes "d";
     job = refl;
     held = held ttl;
-    info = info;
     is_open = is_open;
-    region = key_is;
     added = first_base ∷ second_base ∷ [];
     files = (
       (record { region = sym key_is; family = refl; source = moves.StagedBulk (codes "d") (codes "x"); placed = inl refl; comes = (refl, refl) }, refl),
       ((record { region = sym key_is; family = refl; source = moves.StagedBulk (codes "d") (codes "x"); placed = inr (inl refl); comes = (refl, refl) }, refl), tt),
     );
     some = λ e. absurd (cc);
+    known = ((1, inl refl), ((1, inr (inl refl)), tt));
     fits = (first_fits ttl, (second_fits ttl, tt));
+    once = (first_once ttl, (second_once ttl, tt));
     entries = refl;
     joins = refl;
     seq = refl;

@@ -327,6 +327,7 @@ reply_of o = when (not (is_some o)) TableNotFound ∷ when (not (is_enabled_in o
 pub split_allowed : (ttl : ℕ) → Allows split (u0 ttl)
 split_allowed ttl = record {
   activity = tt;
+  limits = tt;
   unreferenced = [];
   are_unreferenced = none_unreferenced (live_of (u0 ttl).disk) (u0 ttl).plain plain_name none_split;
   holds = ap (λ (r : RegionKey). holds.Region r ∷ []) (sym key_is) ∙ sym (ap (λ (o : Option RegionInfo). map holds.Region (option_to_list (option_map key_of o))) row_region);

@@ -25,7 +25,6 @@ use Rattle.core_bytes.specs.Laws.{WriteFrom}
 use Rattle.core_opens.proofs.Bare.{bare_begins}
 use Rattle.core_opens.proofs.Opens.{begins_valid}
 use Rattle.core_regions.specs.Cover.{HaveLimits}
-use Rattle.core_cells.specs.Cells.{LoadFrom}
 use Rattle.core_fits.proofs.Valid.{stays_valid}
 use Rattle.core_met_trees.specs.Made.{TableIsMade}
 
@@ -63,14 +62,12 @@ commit_allowed ttl = record {
 record Making (s : Parts) : Type 0 where
   allowed : AllowsFrom 0 (both s) entries
   writes : WriteFrom 0 (both s) entries
-  loads : LoadFrom 0 (both s) entries
   stands : (replay_from 0 (both s) entries).now.disk (RegionSet (codes "t") 1) ≡ Some made_file
 
 making : (ttl : ℕ) → Making (begin ttl)
 making ttl = record {
   allowed = (((refl, create_allowed ttl), inl (refl, (omega arith), λ e. absurd (cc))), (((refl, write_allowed ttl), inl (refl, (omega arith), λ e. absurd (cc))), (((refl, commit_allowed ttl), inl (refl, (omega arith), λ e. absurd (cc))), (((refl, refl), inl (refl, tt, λ e. absurd (cc))), tt))));
   writes = (record { file = tt; moved = tt; part = tt }, (record { file = record { lawful = set_lawful; text = refl }; moved = tt; part = tt }, (record { file = tt; moved = tt; part = tt }, (record { file = tt; moved = tt; part = tt }, tt))));
-  loads = (tt, (tt, (tt, (tt, tt))));
   stands = refl;
 }
 
@@ -89,10 +86,9 @@ table_made ttl =
       entries = entries;
       names = have_names;
       limits = have_limits;
-      loads = all.loads;
       allowed = all.allowed;
       writes = all.writes;
-      valid = (stays_valid (bare_opening 1 ttl) empty entries 4 (bare_begins 1 ttl) (omega arith) have_names have_limits all.loads all.allowed all.writes).0;
+      valid = (stays_valid (bare_opening 1 ttl) empty entries 4 (bare_begins 1 ttl) (omega arith) have_names have_limits all.allowed all.writes).0;
       file = made_file;
       stands = (journal_shown (bare_opening 1 ttl) empty entries 4 b.begins have_names all.allowed).now.at (RegionSet (codes "t") 1) ∙ all.stands;
     }

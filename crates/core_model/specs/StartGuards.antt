@@ -1,5 +1,5 @@
 -- When a job may start, a cell be put, and a region be pinned, and what is answered.
-use Rattle.std.specs.Prelude.{◌≤◌, ◌≡◌, ◌≢◌, ◌↔◌, ℕ, ◌+◌, ◌<◌, Bool, true, false, ◌&&◌, ◌||◌, List, [], ◌∷◌, ◌++◌, map, Option, Some, None, is_some, is_none, Result, Ok, Err}
+use Rattle.std.specs.Prelude.{◌≤◌, ◌≡◌, ◌≢◌, ◌↔◌, ℕ, ◌+◌, ◌<◌, Bool, true, false, ◌&&◌, ◌||◌, List, [], ◌∷◌, ◌++◌, length, map, Option, Some, None, is_some, is_none, Result, Ok, Err}
 use Rattle.std.specs.List.{filter, flat_map}
 use Rattle.std.specs.FinMap.{entries}
 use Rattle.hb_records.specs.declared.region_info.RegionInfo.{RegionInfo}
@@ -55,6 +55,11 @@ pub record CanPut (table : List ℕ) (put : PutCell) (moment : Option ℕ) (join
   pub answered : JoinsAs table put moment joined p
 
 -- ---- a start
+
+-- a job within its limits: a new table has 1 to 16 families and at most 1,000 regions
+abbrev pub IsWithinLimits : Job → Type 0
+IsWithinLimits (jobs.Create t families versions splits) = (1 ≤ length families) × (length families ≤ 16) × (length splits ≤ 999)
+IsWithinLimits _ = Unit {0}
 
 -- a job that starts an activity
 abbrev pub IsActivity : Job → Type 0
@@ -162,6 +167,7 @@ regions_for job s = new_regions job (region_id s.epoch (s.ids + 1)) s.plain s.sn
 
 pub record CanStart (job : Job) (answer : Started) (drawn : Drawn) (s : Parts) : Type 0 where
   pub activity : IsActivity job
+  pub limits : IsWithinLimits job
   pub unreferenced : List RegionKey
   pub are_unreferenced : AreUnreferenced (live_of s.disk) s.plain unreferenced
   pub holds : drawn.holds ≡ holds_of unreferenced s.plain job
