@@ -168,8 +168,7 @@ fit_table set tb l e c = record {
   regions = record {
     cover = c.cover;
     few = fewer tb.regions (subst (λ (rs : List (RegionInfo × Bool)). length rs ≤ 1000) e l.few);
-    ids = each-from (λ (i : RegionInfo). i.id < 9_223_372_036_854_775_808) (open_of tb.regions) (λ i m.
-        each-member (λ (x : RegionInfo × Bool). x.0.id < 9_223_372_036_854_775_808) tb.regions (i, false) (subst (AllByRecursion (λ (x : RegionInfo × Bool). x.0.id < 9_223_372_036_854_775_808)) e l.ids) (open-member i tb.regions m));
+    ids = subst (λ (rs : List (RegionInfo × Bool)). AllByRecursion (λ (i : RegionInfo). i.id < 9_223_372_036_854_775_808) (open_of rs)) e l.ids;
   };
   few = subst (λ (rs : List (RegionInfo × Bool)). length rs ≤ 1000) e l.few;
   families = c.families;

@@ -129,10 +129,10 @@ pub record IsCoveredState (s : State) : Type 0 where
 
 -- ---- what no guard asks
 
--- a set of at most 1,000 regions, with ids of epochs up to 2 ^ 31 - 1
+-- a set of at most 1,000 regions, the open ones with ids of epochs up to 2 ^ 31 - 1
 pub record IsSmall (set : RegionSet) : Type 0 where
   pub few : length set.regions ≤ 1000
-  pub ids : AllByRecursion (λ (x : RegionInfo × Bool). x.0.id < 9_223_372_036_854_775_808) set.regions
+  pub ids : AllByRecursion (λ (i : RegionInfo). i.id < 9_223_372_036_854_775_808) (open_of set.regions)
 
 -- a set that is committed is within the limits of its table, and so are the families of a table that is made: the program asks
 -- for them when the job starts
