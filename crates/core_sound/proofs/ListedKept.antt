@@ -96,7 +96,7 @@ list_stands (why.Compact major) a r l cells more s g h e m = elim (merged-member
 ]
 list_stands why.Bulk a r l cells more s g h e m = elim (member-append e (s.lists r).entries (map entries.Own g.added) (subst (Member e) g.entries m)) [
   | inl k ↦ h.listed.at r e (inl (inl g.is_open)) k
-  | inr k ↦ own_stands s r g.added e (λ b n. let w = zip-member _ _ g.added b g.files n in waits_stand s a r b (w.1.0.region ∙ g.region) w.1.1 h) k
+  | inr k ↦ own_stands s r g.added e (λ b n. let w = zip-member _ _ g.added b g.files n in waits_stand s a r b (w.1.0.region ∙ g.is_open.key) w.1.1 h) k
 ]
 list_stands why.Build a r l cells more s g h e m = let f = each-member (HasFile r s) l.entries e g.files m in record {
   file = f.file;
