@@ -116,7 +116,7 @@ brought a r l cells more s g w h c m =
 -- cells of bases that share none stand once, where those of each do
 once_each : (made : Made) (bs : List Base) → EachTwo (λ b c. b ≢ c) bs → AllByRecursion (HasNoDouble made) bs
     → ((b d : Base) (x : Cell) → Member b bs → Member d bs → Member x (cells_of made (Own b)) → Member x (cells_of made (Own d)) → b ≡ d) → AreOnce (cells_in made (map Own bs))
-once_each made [] n h k c = omega arith
+once_each made [] n h k = λ c. omega arith
 once_each made (b ∷ bs) n h k = once-append (cells_of made (Own b)) (cells_in made (map Own bs)) h.0 (once_each made bs n.1 h.1 (λ x y c i j. k x y c (inr i) (inr j))) (λ c i j.
     let w = cell-entry made (map Own bs) c j in
     let v = map-member Own w.0 bs w.1 in

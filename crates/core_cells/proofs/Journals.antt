@@ -1,5 +1,5 @@
 -- So do the entries of journals.
-use Rattle.std.proofs.Common.{◌≡◌, ℕ, zero, suc, ◌+◌, Bool, true, false, List, [], ◌∷◌, take, Some, refl, sym, ap, ◌∙◌, subst, inl, inr}
+use Rattle.std.proofs.Common.{◌≡◌, ℕ, ◌+◌, Bool, true, false, List, [], ◌∷◌, take, Some, refl, sym, ap, ◌∙◌, subst, inl, inr}
 use Rattle.std.specs.Prelude.{map, option_map}
 use Rattle.std.specs.List.{AllZip}
 use Rattle.std.specs.FinMap.{from_entries, get}
@@ -23,7 +23,7 @@ use Rattle.core_model.specs.Opened as opened
 use Rattle.core_model.specs.Replay.{after, begun, replay, replay_from, unless}
 use Rattle.core_model.specs.Replay as replay
 use Rattle.core_model.specs.Sound.{IsSoundState}
-use Rattle.core_model.specs.State.{Parts, State}
+use Rattle.core_model.specs.State.{State}
 use Rattle.core_sound.proofs.HoldsFound.{some_is}
 use Rattle.core_sound.proofs.Journals.{HasFew, allowed_other, allows_front, entry_kept, few-begun, few_after, sound-begun}
 use Rattle.core_bytes.specs.Laws.{WriteFrom}
