@@ -200,7 +200,7 @@ no_entries {X} = none_long (entries (empty {X = X} {R = bytes_cmp})) (sym (len-e
 pub create_allowed : (ttl : ℕ) → Allows create (begin ttl)
 create_allowed ttl = record {
   activity = tt;
-  limits = ((omega arith), ((omega arith), (omega arith)));
+  limits = ((omega arith), (omega arith), (omega arith));
   unreferenced = [];
   are_unreferenced = record { is_old = λ r. true; exact = λ r. (λ e. absurd (cc), λ i. let z = i.stands in absurd (cc)); filtered = sym (ap (λ es. filter (λ (r : RegionKey). true) (flat_map (λ (x : List ℕ × PlainTable). split_keys x.1) es)) no_entries) };
   holds = refl;

@@ -191,7 +191,7 @@ place_second_allowed ttl = record {
 pub write_list_allowed : (ttl : ℕ) → Allows write_list (b3 ttl)
 write_list_allowed ttl = record { live = refl; new = sym fourth_name; gives = refl }
 
-is_open : InSet tables key false
+abbrev is_open : InSet tables key false
 is_open = record { table = tab; stands = table_is; info = info; listed = inl refl; key = key_is }
 
 first_fits : (ttl : ℕ) → FitsFamily (b4 ttl).made first_base

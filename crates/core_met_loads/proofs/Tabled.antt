@@ -96,7 +96,7 @@ table_made ttl = λ i. record (m4 ttl) {
 pub create_allowed : (ttl : ℕ) → Allows create (waiting ttl)
 create_allowed ttl = record {
   activity = tt;
-  limits = ((omega arith), ((omega arith), (omega arith)));
+  limits = ((omega arith), (omega arith), (omega arith));
   unreferenced = [];
   are_unreferenced = none_unreferenced (live_of (waiting ttl).disk) (waiting ttl).plain (λ b f e. absurd (cc)) (ap (λ es. flat_map (λ (x : List ℕ × PlainTable). split_keys x.1) es) no_entries);
   holds = refl;
