@@ -31,14 +31,13 @@ use Rattle.core_model.specs.State.{Parts}
 use Rattle.core_model.specs.TableFacts.{HasOwnRegions}
 use Rattle.core_sound.proofs.HoldsFound.{some_is}
 use Rattle.core_sound.proofs.Lists.{get-taken}
-use Rattle.core_sound.proofs.Sources.{each-member, map-member, open-member}
+use Rattle.core_sound.proofs.Sources.{map-member}
 use Rattle.core_sound.proofs.TablesKept.{other_table, put_this}
 use Rattle.core_sound.proofs.Tests.{same_bytes-true}
 use Rattle.core_contents.specs.ContentFacts.{Copies}
 use Rattle.core_contents.specs.Faithful.{IsFaithful}
 use Rattle.core_contents.specs.PlanFacts.{IsPlan}
 use Rattle.core_opens.specs.Fits.{AreFamilies}
-use Rattle.core_beside.proofs.Pairs.{each-from}
 use Rattle.core_regions.specs.Cover.{AreNewRegions, Differ, Divides, IsCovered, IsFitTable, IsSmall, CopiesBounds, table_in_copy}
 use Rattle.core_regions.proofs.Counted.{differ_new, differ_put, differ_same, differ_split, differ_without, in_put, of_put, open-all, opens-without, split_covers, still_put}
 use Rattle.core_regions.proofs.Held.{changed_from, none_of, removed_held}
