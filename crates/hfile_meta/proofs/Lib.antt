@@ -1,3 +1,4 @@
 pub mod Trailers
 pub mod WrittenTrailers
 pub mod Infos
+pub mod WrittenInfos

@@ -1,6 +1,7 @@
 -- The trailer that is written (HBase Reference Guide, HFile format, trailer; FixedFileTrailer): each field once, in the
--- order of their numbers, and the name of the comparator.
+-- order of their numbers, and the name of the comparator; and the file info that is written.
 use Rattle.std.specs.Prelude.{ℕ, ◌-◌, ◌<◌, ◌^◌, List, [], ◌∷◌, ◌++◌, length, codes}
+use Rattle.std.specs.List.{flat_map}
 use Rattle.wire_fields.specs.Fields.{Part, number, text, field_bytes}
 use Rattle.wire_fields.specs.Message.{message_bytes}
 use Rattle.hfile_meta.specs.declared.trailer.Trailer.{Trailer}
@@ -51,3 +52,17 @@ pub record FitsTrailer (t : Trailer) : Type 0 where
   pub first : t.first < 2 ^ 64
   pub last : t.last < 2 ^ 64
   pub compression : t.compression < 2 ^ 32
+
+-- ---- the file info
+
+-- a pair as a message: its key, then its value
+unfoldable pub pair_bytes : List ℕ × List ℕ → List ℕ
+pair_bytes pair = field_bytes 1 (text pair.0) ++ field_bytes 2 (text pair.1)
+
+-- the pairs, each a value of field 1, in their order
+abbrev pub pair_fields : List (List ℕ × List ℕ) → List ℕ
+pair_fields pairs = flat_map (λ (pair : List ℕ × List ℕ). field_bytes 1 (text (pair_bytes pair))) pairs
+
+-- the content of a written file info (HBase Reference Guide, HFile format, file info; HFileInfo)
+unfoldable pub written_info : List (List ℕ × List ℕ) → List ℕ
+written_info pairs = codes "PBUF" ++ delimited (pair_fields pairs)

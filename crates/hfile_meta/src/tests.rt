@@ -1,6 +1,6 @@
 use super::*;
-use hb_wire::{Blob, NoMemory};
-use std::alloc::Global;
+use hb_wire::{Blob, Items, NoMemory};
+use std::alloc::{AllocError, Global};
 use std::test::Fail;
 use wire_fields::{put_bytes_field, put_varint, put_varint_field};
 
@@ -248,4 +248,44 @@ fn refuses_infos(rt: HostRuntime) {
     for content in NO_INFOS {
         assert!(rt; told_by(rt.alloc(), content) == Err(MetaError::BadInfo(0)));
     }
+}
+
+/// The contents that are written for some pairs: by hand, no pair, one, and two whose order is kept.
+const WRITTEN_INFOS: [(&[(&[u8], &[u8])], &[u8]); 3] = [
+    (&[], b"PBUF\0"),
+    (&[(b"k", b"v")], ONE_PAIR),
+    (
+        &[(b"k", b""), (b"", b"v")],
+        b"PBUF\x0e\x0a\x05\x0a\x01k\x12\0\x0a\x05\x0a\0\x12\x01v",
+    ),
+];
+
+/// The content that is written for some pairs.
+fn written(alloc: Global, pairs: &[(&[u8], &[u8])]) -> Result<Blob, NoMemory> {
+    let mut kept = Vec::with_capacity(alloc, pairs.len())?;
+    for (key, value) in pairs {
+        let pair = (Blob::copy_of(alloc, key)?, Blob::copy_of(alloc, value)?);
+        kept.push(pair).map_err(|_pair| AllocError)?;
+    }
+    let mut out = Blob::copy_of(alloc, b"")?;
+    write_info(
+        &mut out,
+        &Info {
+            pairs: Items::from_vec(kept),
+        },
+    )?;
+    Ok(out)
+}
+
+#[test]
+fn writes_infos(rt: HostRuntime) -> Result<(), Fail> {
+    for (pairs, content) in WRITTEN_INFOS {
+        let out = written(rt.alloc(), pairs)?;
+        assert_eq!(rt; out.as_slice(), content);
+    }
+    // A value of 200 bytes, whose lengths take two bytes each.
+    let out = written(rt.alloc(), &[(b"k", &[7; 200])])?;
+    assert!(rt; out.len() == 4 + 2 + 3 + 3 + 3 + 200);
+    assert!(rt; told_by(rt.alloc(), out.as_slice()) == Ok((1, false)));
+    Ok(())
 }

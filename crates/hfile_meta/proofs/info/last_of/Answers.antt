@@ -1,5 +1,4 @@
-use Rattle.std.proofs.Common.{◌≡◌, ◌+◌, List, ℕ, length, Option, Some, None, vec_len, arith}
-use Rattle.std.specs.Prelude.{MatchOption}
+use Rattle.std.proofs.Common.{List, ℕ}
 use Rattle.std.specs.Borrow.{Bor}
 use Rattle.hfile_meta.proofs.Infos.{last_of-popped}
 use Rattle.hfile_meta.proofs.info.last_of.Goals as goal

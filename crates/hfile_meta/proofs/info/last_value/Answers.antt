@@ -1,4 +1,4 @@
-use Rattle.std.proofs.Common.{option_map, List, ℕ}
+use Rattle.std.proofs.Common.{option_map}
 use Rattle.hfile_meta.proofs.Infos.{last_value-more}
 use Rattle.hfile_meta.proofs.info.last_value.Goals as goal
 
