@@ -58,7 +58,7 @@ listed_changed u f tables i split e k h = record {
 -- ---- holds
 
 -- whoever holds a table excludes a region of it
-no_table : {P : Type 0} (s : Parts) (a w : ℕ) (i : RegionInfo) → IsSound s → (a ≡ w → ⊥) → HasHold s.plain.live a (holds.Table i.table) → HasHold s.plain.live w (holds.Region (key_of i)) → P
+pub no_table : {P : Type 0} (s : Parts) (a w : ℕ) (i : RegionInfo) → IsSound s → (a ≡ w → ⊥) → HasHold s.plain.live a (holds.Table i.table) → HasHold s.plain.live w (holds.Region (key_of i)) → P
 no_table s a w i h n x y = let z : true ≡ false = sym (same_bytes-self i.table) ∙ holds_apart s.plain.live a w (holds.Table i.table) (holds.Region (key_of i)) h.apart x y n in absurd (cc)
 
 no_region : {P : Type 0} (s : Parts) (a w : ℕ) (r : RegionKey) → IsSound s → (a ≡ w → ⊥) → HasHold s.plain.live a (holds.Region r) → HasHold s.plain.live w (holds.Region r) → P
@@ -155,7 +155,7 @@ by_table s a table job j x u v = record { hold = holds.Table table; held = x; no
 by_region : (s : Parts) (a : ℕ) (table name : List ℕ) (job : Job) → job_of s.plain.live a ≡ Some job → HasHold s.plain.live a (holds.Region (key_at table name)) → ((t : List ℕ) → FitsJob (holds.Load t) job → ⊥) → ((name t : List ℕ) → FitsJob (holds.Take name t) job → ⊥) → Changer s a table
 by_region s a table name job j x u v = record { hold = holds.Region (key_at table name); held = x; not_load = same_bytes-self table; not_take = λ n. same_bytes-self table; job = job; is_job = j; no_load = u; no_take = v }
 
-own_table : (s : Parts) (a : ℕ) (table t : List ℕ) (job : Job) → IsSound s → job_of s.plain.live a ≡ Some job → t ≡ table → ((hs : List Hold) → HasOwnHold job hs → Member (holds.Table t) hs) → HasHold s.plain.live a (holds.Table table)
+pub own_table : (s : Parts) (a : ℕ) (table t : List ℕ) (job : Job) → IsSound s → job_of s.plain.live a ≡ Some job → t ≡ table → ((hs : List Hold) → HasOwnHold job hs → Member (holds.Table t) hs) → HasHold s.plain.live a (holds.Table table)
 own_table s a table t job h j e k = subst (λ x. HasHold s.plain.live a (holds.Table x)) e (own_hold s a job t h j k)
 
 pub changer : (job : Option Job) (change : Event) (table : List ℕ) (a : ℕ) (s : Parts) → job_of s.plain.live a ≡ job → IsChange job change table a s → IsSound s → Changer s a table

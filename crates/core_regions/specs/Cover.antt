@@ -127,15 +127,14 @@ pub record IsCoveredState (s : State) : Type 0 where
   pub now : IsCovered s.now
   pub other : IsCovered s.other
 
--- ---- what no guard asks
+-- ---- limits, which follow from the guards of starts
 
 -- a set of at most 1,000 regions, the open ones with ids of epochs up to 2 ^ 31 - 1
 pub record IsSmall (set : RegionSet) : Type 0 where
   pub few : length set.regions ≤ 1000
   pub ids : AllByRecursion (λ (i : RegionInfo). i.id < 9_223_372_036_854_775_808) (open_of set.regions)
 
--- a set that is committed is within the limits of its table, and so are the families of a table that is made: the program asks
--- for them when the job starts
+-- a set that is committed is within the limits of its table, and so are the families of a table that is made
 abbrev pub HasLimits : Step → Type 0
 HasLimits (step.CommitRegions actor table number name set (event.Create schema regions)) = IsSmall set × AreFamilies schema.families
 HasLimits (step.CommitRegions actor table number name set change) = IsSmall set
