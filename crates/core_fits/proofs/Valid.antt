@@ -16,6 +16,7 @@ use Rattle.core_opens.proofs.Opens.{begins_valid}
 use Rattle.core_complete.proofs.Complete.{stays_complete}
 use Rattle.core_beside.proofs.Journals.{beside_replay}
 use Rattle.core_regions.proofs.Journals.{covered_replay}
+use Rattle.core_limits.proofs.Journals.{limits_replay}
 use Rattle.core_cells.proofs.Journals.{cells_replay}
 use Rattle.core_fits.specs.Fitting.{StaysValid}
 use Rattle.core_fits.proofs.Entries.{fits}
@@ -37,10 +38,11 @@ told_valid tree s t k f = let e : disk_of tree ≡ s.disk = λ i p. t.shown.show
 }
 
 pub stays_valid : (o : Opening) (tree : Tree) (es : List JournalEntry) (k : ℕ) → StaysValid o tree es k
-stays_valid o tree es k c u names m a w =
+stays_valid o tree es k c u names a w =
     let b = begins_valid o tree c in
     let life : IsLife o tree es = record { begins = b.begins; begins_written = b.written; names = names; allowed = a; writes = w } in
     let complete = stays_complete o tree es k c u names a w in
+    let m = limits_replay o tree es c u a w in
     let beside = beside_replay o tree es k c a in
     let covered = covered_replay o tree es k c m a w in
     let cells = cells_replay o tree es k c m a w in

@@ -10,10 +10,9 @@ use Rattle.core_trees.specs.Trees.{HaveNames, trees_after}
 use Rattle.core_bytes.specs.Laws.{WriteFrom}
 use Rattle.core_opens.specs.Begins.{CanBegin}
 use Rattle.core_opens.specs.Valid.{IsValid}
-use Rattle.core_regions.specs.Cover.{HaveLimits}
 
--- after each front of a journal of allowed entries within their limits that write what they say, the trees are valid
+-- after each front of a journal of allowed entries that write what they say, the trees are valid
 abbrev pub StaysValid : Opening → Tree → List JournalEntry → ℕ → Type 0
 StaysValid o tree es k =
-    CanBegin o tree → IsEpoch o.epoch → HaveNames es → HaveLimits es → AllowsAll o es → WriteFrom 0 (begun o) es
+    CanBegin o tree → IsEpoch o.epoch → HaveNames es → AllowsAll o es → WriteFrom 0 (begun o) es
     → IsValid (trees_after tree (take k es)).now × IsValid (trees_after tree (take k es)).other

@@ -24,7 +24,6 @@ use Rattle.core_trees.proofs.Shown.{journal_shown}
 use Rattle.core_bytes.specs.Laws.{WriteFrom}
 use Rattle.core_opens.proofs.Bare.{bare_begins}
 use Rattle.core_opens.proofs.Opens.{begins_valid}
-use Rattle.core_regions.specs.Cover.{HaveLimits}
 use Rattle.core_fits.proofs.Valid.{stays_valid}
 use Rattle.core_met_trees.specs.Made.{TableIsMade}
 
@@ -74,9 +73,6 @@ making ttl = record {
 have_names : HaveNames entries
 have_names = (tt, (tt, (table_lawful, (tt, tt))))
 
-have_limits : HaveLimits entries
-have_limits = (tt, (tt, ((record { few = (omega arith); ids = ((omega arith), tt) }, record { some = (omega arith); few = (omega arith); differ = (tt, tt) }), (tt, tt))))
-
 pub table_made : (ttl : ℕ) → TableIsMade ttl
 unfolding replay
 table_made ttl =
@@ -85,10 +81,9 @@ table_made ttl =
     record {
       entries = entries;
       names = have_names;
-      limits = have_limits;
       allowed = all.allowed;
       writes = all.writes;
-      valid = (stays_valid (bare_opening 1 ttl) empty entries 4 (bare_begins 1 ttl) (omega arith) have_names have_limits all.allowed all.writes).0;
+      valid = (stays_valid (bare_opening 1 ttl) empty entries 4 (bare_begins 1 ttl) (omega arith) have_names all.allowed all.writes).0;
       file = made_file;
       stands = (journal_shown (bare_opening 1 ttl) empty entries 4 b.begins have_names all.allowed).now.at (RegionSet (codes "t") 1) ∙ all.stands;
     }

@@ -11,13 +11,11 @@ use Rattle.core_sound.specs.Laws.{bare_opening}
 use Rattle.core_trees.specs.Trees.{HaveNames, trees_after}
 use Rattle.core_bytes.specs.Laws.{WriteFrom}
 use Rattle.core_opens.specs.Valid.{IsValid}
-use Rattle.core_regions.specs.Cover.{HaveLimits}
 
 pub record TableIsMade (ttl : ℕ) : Type 0 where
   pub entries : List JournalEntry
   -- all that the law on valid trees asks of a journal
   pub names : HaveNames entries
-  pub limits : HaveLimits entries
   pub allowed : AllowsAll (bare_opening 1 ttl) entries
   pub writes : WriteFrom 0 (begun (bare_opening 1 ttl)) entries
   -- the tree that it leaves, with the first set of the table
