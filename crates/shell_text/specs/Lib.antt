@@ -4,3 +4,4 @@ pub mod Text
 pub mod TextLaws
 pub mod Repeated
 pub mod RepeatedLaws
+pub mod TextEnd

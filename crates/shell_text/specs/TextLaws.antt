@@ -69,7 +69,7 @@ plain_meaning OneDot = record { bytes = 48 ∷ []; means = refl; plain = (refl, 
 plain_meaning TwoDots = record { bytes = 48 ∷ []; means = refl; plain = (refl, tt) }
 
 -- plain bytes mean themselves
-meaning-plain : (bytes : List ℕ) → ArePlain bytes → meaning Between bytes ≡ Some bytes
+pub meaning-plain : (bytes : List ℕ) → ArePlain bytes → meaning Between bytes ≡ Some bytes
 meaning-plain [] plain = refl
 meaning-plain (byte ∷ bytes) plain =
     cond_true (is_plain byte) _ _ plain.0 ∙ ap (λ (o : Option (List ℕ)). option_map (λ rest. byte ∷ rest) o) (meaning-plain bytes plain.1)

@@ -5,12 +5,15 @@
 
 pub mod argument;
 pub mod blanks;
+mod meant;
 pub mod padded;
 pub mod repeated;
 pub mod text;
+pub mod text_end;
 
 pub use argument::Argument;
 pub use blanks::Blanks;
 pub use padded::Padded;
 pub use repeated::Repeated;
 pub use text::Text;
+pub use text_end::behind_text;
