@@ -1,34 +1,12 @@
 //! What lines ask for.
 use crate::read_line;
-use shell_line::LineKind;
+use shell_line::LINE_KINDS;
 use std::alloc::Global;
 use std::test::Fail;
 
-const KINDS: [LineKind; 19] = [
-    LineKind::Create,
-    LineKind::Put,
-    LineKind::Delete,
-    LineKind::Scan,
-    LineKind::Flush,
-    LineKind::Compact,
-    LineKind::MajorCompact,
-    LineKind::Disable,
-    LineKind::Enable,
-    LineKind::Drop,
-    LineKind::Split,
-    LineKind::Snapshot,
-    LineKind::ListSnapshots,
-    LineKind::DeleteSnapshot,
-    LineKind::CloneSnapshot,
-    LineKind::RestoreSnapshot,
-    LineKind::Bulkload,
-    LineKind::CatalogjanitorRun,
-    LineKind::CleanerChoreRun,
-];
-
 // The job of a line, as text.
 fn asked(alloc: Global, line: &[u8]) -> Result<String, Fail> {
-    match read_line(alloc, &KINDS, line) {
+    match read_line(alloc, &LINE_KINDS, line) {
         Ok(job) => Ok(format!(in alloc; "{:?}", job)?),
         Err(_) => Ok(String::from_str(alloc, "bad")?),
     }

@@ -10,8 +10,9 @@ pub mod line;
 mod line_form;
 pub mod line_kind;
 mod piece;
+mod put_line;
 #[cfg(test)]
 mod tests;
 
 pub use line::check_line;
-pub use line_kind::LineKind;
+pub use line_kind::{LINE_KINDS, LineKind};

@@ -6,6 +6,7 @@ ghost use Rattle.shell_line.specs.Line.{Begins, IsArguments, IsBegun, IsLine, Is
 
 use crate::line_form::{create, delete, one, put, two};
 use crate::line_kind::{Arguments, LineKind};
+use crate::put_line::is_short_put;
 use hb_grammar::{Fault, scan};
 use shell_text::{Argument, Blanks};
 
@@ -33,11 +34,15 @@ fn scan_two(first: Argument, second: Argument, bytes: &[u8]) -> Result<(), Fault
     }
 }
 
-/// Scans what a line puts.
+/// Scans what a line puts: argument by argument, and by its whole grammar where that doesn't take it, since only that tells
+/// the place of a fault.
 fn scan_put(bytes: &[u8]) -> Result<(), Fault>
     ensures found { IfOk result (λ _. IsPut bytes.now) }
     ensures fault { IfErr result (λ fault. IsFault IsPut bytes.now fault.0) }
 {
+    if is_short_put(bytes) {
+        return Ok(());
+    }
     let grammar = put();
     match scan(grammar, bytes) {
         Ok(()) => Ok(()),

@@ -28,6 +28,29 @@ pub enum LineKind {
     CleanerChoreRun,
 }
 
+/// Every kind of line.
+pub const LINE_KINDS: [LineKind; 19] = [
+    LineKind::Create,
+    LineKind::Put,
+    LineKind::Delete,
+    LineKind::Scan,
+    LineKind::Flush,
+    LineKind::Compact,
+    LineKind::MajorCompact,
+    LineKind::Disable,
+    LineKind::Enable,
+    LineKind::Drop,
+    LineKind::Split,
+    LineKind::Snapshot,
+    LineKind::ListSnapshots,
+    LineKind::DeleteSnapshot,
+    LineKind::CloneSnapshot,
+    LineKind::RestoreSnapshot,
+    LineKind::Bulkload,
+    LineKind::CatalogjanitorRun,
+    LineKind::CleanerChoreRun,
+];
+
 /// What the arguments of a line are.
 #[derive(Clone, Copy, Debug, PartialEq, Eq)]
 pub(crate) enum Arguments {

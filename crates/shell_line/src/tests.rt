@@ -1,31 +1,10 @@
 //! Lines of each kind, and the places where others leave the grammar.
-use crate::{LineKind, check_line};
-
-const KINDS: [LineKind; 19] = [
-    LineKind::Create,
-    LineKind::Put,
-    LineKind::Delete,
-    LineKind::Scan,
-    LineKind::Flush,
-    LineKind::Compact,
-    LineKind::MajorCompact,
-    LineKind::Disable,
-    LineKind::Enable,
-    LineKind::Drop,
-    LineKind::Split,
-    LineKind::Snapshot,
-    LineKind::ListSnapshots,
-    LineKind::DeleteSnapshot,
-    LineKind::CloneSnapshot,
-    LineKind::RestoreSnapshot,
-    LineKind::Bulkload,
-    LineKind::CatalogjanitorRun,
-    LineKind::CleanerChoreRun,
-];
+use crate::put_line::is_short_put;
+use crate::{LINE_KINDS, LineKind, check_line};
 
 /// The column of the first byte that is bad, or none where the bytes are a line.
 fn column(line: &[u8]) -> Option<usize> {
-    match check_line(&KINDS, line) {
+    match check_line(&LINE_KINDS, line) {
         Ok(_) => None,
         Err(fault) => fault.0.checked_add(1),
     }
@@ -113,4 +92,29 @@ fn a_kind_that_is_not_run(rt: HostRuntime) {
         Err(fault) => Some(fault.0),
     };
     assert_eq!(rt; found, Some(6));
+}
+
+#[test]
+fn what_a_line_puts_is_taken_at_once(rt: HostRuntime) {
+    let table: [(&[u8], bool); 8] = [
+        (b" 't','r','f:q','v'", true),
+        (
+            b"  't-1.x' , 'a row' ,'f_2:', '' ,9223372036854775807",
+            true,
+        ),
+        (b" '\\x74','\\x00\\xff','f:a:b','\\x5c',0", true),
+        (b" 't','r','f:q','v','", false),
+        (b" 't','r','fq','v'", false),
+        (b" '-t','r','f:q','v'", false),
+        (b" 't','','f:q','v'", false),
+        (b"'t','r','f:q','v'", false),
+    ];
+    for (arguments, taken) in table {
+        assert_eq!(rt;
+            is_short_put(arguments),
+            taken,
+            "in {} bytes",
+            arguments.len()
+        );
+    }
 }

@@ -1,38 +1,16 @@
 //! Each front of a good line, and each line with one byte changed.
 use crate::forms::{BLOCK, FORMS, place};
-use shell_line::LineKind;
+use shell_line::LINE_KINDS;
 use shell_script::{ScriptError, parse_script};
 use std::alloc::Global;
 use std::test::Fail;
-
-const KINDS: [LineKind; 19] = [
-    LineKind::Create,
-    LineKind::Put,
-    LineKind::Delete,
-    LineKind::Scan,
-    LineKind::Flush,
-    LineKind::Compact,
-    LineKind::MajorCompact,
-    LineKind::Disable,
-    LineKind::Enable,
-    LineKind::Drop,
-    LineKind::Split,
-    LineKind::Snapshot,
-    LineKind::ListSnapshots,
-    LineKind::DeleteSnapshot,
-    LineKind::CloneSnapshot,
-    LineKind::RestoreSnapshot,
-    LineKind::Bulkload,
-    LineKind::CatalogjanitorRun,
-    LineKind::CleanerChoreRun,
-];
 
 /// The line and the column where a script is bad; nothing where it is good; and `(0, 0)` where it is not read.
 pub(crate) fn found(alloc: Global, input: &[u8], blocks: bool) -> Option<(usize, usize)> {
     if input.len() > 1_000_000 {
         return Some((0, 0));
     }
-    match parse_script(alloc, &KINDS, input, blocks) {
+    match parse_script(alloc, &LINE_KINDS, input, blocks) {
         Ok(_) => None,
         Err(ScriptError::BadLine { line, column, .. }) => Some((line as usize, column as usize)),
         Err(_) => Some((0, 0)),
