@@ -1,11 +1,10 @@
-use Rattle.std.proofs.Common.{◌≡◌, ℕ, zero, suc, ◌+◌, ◌-◌, ◌<◌, ◌≤◌, nat_eq, nat_lt, List, [], ◌∷◌, ◌++◌, Bool, true, false, ◌&&◌, cond, Option, Some, None, length, take, drop, get_or, refl, sym, ap, ◌∙◌, subst, arith}
+use Rattle.std.proofs.Common.{◌≡◌, ℕ, zero, suc, ◌+◌, ◌-◌, ◌<◌, ◌≤◌, nat_eq, nat_lt, List, [], ◌∷◌, ◌++◌, Bool, true, false, ◌&&◌, Some, None, length, take, drop, get_or, refl, sym, ap, ◌∙◌, subst, arith}
 use Rattle.std.specs.List.{AllByRecursion}
 use Rattle.std.proofs.lemmas.Bool.Decides.{nat_tests}
 use Rattle.std.proofs.lemmas.List.{length-take-le, take-append-drop, take_more, drop_more, length-drop}
 use Rattle.hb_grammar.specs.declared.class.Class.{Class}
 use Rattle.hb_grammar.specs.declared.class.Class.TheVariants.{FamilyStart, Name}
 use Rattle.hb_grammar.specs.Class.{AllIn, has}
-use Rattle.shell_text.specs.declared.argument.Argument.{Argument}
 use Rattle.shell_text.specs.declared.argument.Argument.TheVariants.{Column, Named, Qualifier, Run}
 use Rattle.shell_text.specs.declared.argument.TheConstants.{MAX_QUALIFIER}
 use Rattle.shell_text.specs.Argument.{IsLeft, Means, qualifier_next}
