@@ -1,0 +1,12 @@
+mod Replay
+mod Journaled
+mod Live
+mod Regions
+mod Files
+mod Works
+mod Freed
+mod Ends
+mod Entered
+mod Rooms
+mod Opened
+mod Applied
