@@ -1,5 +1,5 @@
 -- A core after one entry more.
-use Rattle.std.proofs.Common.{◌≡◌, ℕ, ◌+◌, ◌<◌, ◌≤◌, List, [], ◌∷◌, ◌++◌, length, None, IfSome, refl, sym, ap, subst, ◌∙◌, arith}
+use Rattle.std.proofs.Common.{◌≡◌, ℕ, ◌+◌, ◌<◌, ◌≤◌, [], ◌∷◌, ◌++◌, length, None, IfSome, refl, sym, ap, subst, ◌∙◌, arith}
 use Rattle.std.specs.Prelude.{vec_len, vec_capacity}
 use Rattle.core_model.specs.declared.journal.JournalEntry.{JournalEntry}
 use Rattle.core_model.specs.declared.journal.TheConstants.{JOURNAL_LIMIT}
@@ -28,7 +28,7 @@ ends_fit a e r g h =
     let many = a.state.works.ok.0 in
     let ends = h.room.ends in
     ends_room (length a.entries.items) e.worker e.step e.failed (state_of (held a)) a.state.works.items _ (vec_len a.entries) (vec_capacity a.entries) g h.replay.live refl
-        (λ none. let m = (r none).entry in omega (arith, m, many)) (omega (arith, ends, many))
+    (λ none. let m = (r none).entry in omega (arith, m, many)) (omega (arith, ends, many))
 
 pub has_room : (a : Inside) (e : JournalEntry) → NeedsReady e.step (IsReady a e.step) → AllowsNext a e → Represents a → vec_len a.entries < vec_capacity a.entries
 has_room a e r g h = let k = ends_fit a e r g h in omega (arith, k)

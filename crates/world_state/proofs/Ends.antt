@@ -1,5 +1,5 @@
 -- What the end of an activity changes.
-use Rattle.std.proofs.Common.{◌≡◌, Some, refl, ap}
+use Rattle.std.proofs.Common.{◌≡◌, Some, ap}
 use Rattle.plain_model.specs.declared.who.Actor.{Actor}
 use Rattle.core_model.specs.declared.step.Step.{Step}
 use Rattle.core_model.specs.declared.step.Step.TheVariants as step

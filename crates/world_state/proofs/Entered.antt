@@ -1,5 +1,5 @@
 -- What is kept at run time, after one entry more.
-use Rattle.std.proofs.Common.{◌≡◌, ℕ, ◌+◌, Bool, true, false, List, map, Option, Some, None, refl, sym, ap, subst, ◌∙◌}
+use Rattle.std.proofs.Common.{◌≡◌, ℕ, ◌+◌, Bool, true, false, map, sym, ap, subst, ◌∙◌}
 use Rattle.std.specs.Prelude.{length}
 use Rattle.std.specs.List.{AllByRecursion}
 use Rattle.hb_cell.specs.Order.{bytes_cmp}
@@ -15,7 +15,7 @@ use Rattle.core_model.specs.FileChanges.{files_by, ids_by}
 use Rattle.core_model.specs.Ops.{op_of}
 use Rattle.core_model.specs.Replay.{after, closed_by, unless}
 use Rattle.core_model.specs.Replay as replay
-use Rattle.core_model.specs.State.{Parts, State}
+use Rattle.core_model.specs.State.{State}
 use Rattle.core_sites.specs.Shows.{MakesSpelled}
 use Rattle.core_places.specs.Places.{ArePlaces}
 use Rattle.core_places.specs.Served.{IsServed}

@@ -9,4 +9,6 @@ mod Ends
 mod Entered
 mod Rooms
 mod Opened
+mod Sought
 mod Applied
+mod Trial

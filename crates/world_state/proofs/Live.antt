@@ -1,6 +1,5 @@
 -- What each step makes of the activities at work, by its event.
 use Rattle.std.proofs.Common.{◌≡◌, ℕ, List, Option, Some, refl}
-use Rattle.std.specs.Prelude.{Ok}
 use Rattle.plain_model.specs.declared.event.Event.{Event}
 use Rattle.plain_model.specs.declared.event.Event.TheVariants as event
 use Rattle.plain_model.specs.declared.job.Job.{Job}

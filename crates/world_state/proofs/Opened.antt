@@ -3,7 +3,7 @@ use Rattle.std.proofs.Common.{◌≡◌, ℕ, Bool, true, false, cond, List, [],
 use Rattle.std.specs.Prelude.{◌↔◌, is_some}
 use Rattle.std.specs.List.{AllByRecursion}
 use Rattle.std.specs.FinMap.{contains_key, empty, find, from_entries, get, get-empty, get-from_entries}
-use Rattle.std.specs.Cmp.{Equal-is, IsTotalOrder, tied_itself}
+use Rattle.std.specs.Cmp.{Equal-is, tied_itself}
 use Rattle.std.specs.Ordering.{eq_by_cmp, is_eq}
 use Rattle.std.proofs.lemmas.Bool.{true≢false}
 use Rattle.cell_sight.specs.Member.{Member}
@@ -12,10 +12,10 @@ use Rattle.ns_tree.specs.declared.file.FileState.{FileState}
 use Rattle.reserved_map.specs.Keys.{bytes_cmp-exact, region_cmp}
 use Rattle.core_model.specs.declared.found.Found.{Found}
 use Rattle.core_model.specs.declared.opening.Opening.{Opening}
-use Rattle.core_model.specs.Disk.{Disk, disk_of, is_regular}
+use Rattle.core_model.specs.Disk.{Disk, disk_of}
 use Rattle.core_model.specs.Replay.{begun}
 use Rattle.core_model.specs.State.{no_plan}
-use Rattle.core_model.specs.Site.{Site, Tmp, site_text}
+use Rattle.core_model.specs.Site.{Tmp, site_text}
 use Rattle.core_sites.proofs.Shown.{shown}
 use Rattle.core_places.specs.Places.{ArePlaces}
 use Rattle.world_state.specs.Opened.{HasFound, places_in, tree_of}

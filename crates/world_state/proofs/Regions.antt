@@ -1,7 +1,7 @@
 -- The regions that were drawn, with those of a step.
-use Rattle.std.proofs.Common.{◌≡◌, ℕ, ◌+◌, ◌<◌, suc, add-one, drop, drop-cons, get_or, length, Bool, true, false, cond, List, [], ◌∷◌, ◌++◌, map, Some, None, refl, sym, ap, subst, ◌∙◌, ◌⊎◌, inl, inr, arith, rules}
-use Rattle.std.specs.Prelude.{◌↔◌, is_some}
-use Rattle.std.specs.FinMap.{contains_key, get, insert, get-insert}
+use Rattle.std.proofs.Common.{◌≡◌, ℕ, ◌+◌, ◌<◌, suc, add-one, drop, drop-cons, get_or, length, Bool, true, false, cond, List, [], ◌∷◌, ◌++◌, map, Some, refl, sym, ap, subst, ◌∙◌, ◌⊎◌, inl, inr, rules}
+use Rattle.std.specs.Prelude.{is_some}
+use Rattle.std.specs.FinMap.{get, insert, get-insert}
 use Rattle.std.specs.Cmp.{IsTotalOrder, Equal-is, tied_itself}
 use Rattle.std.specs.Cmp.Rules.{comparing}
 use Rattle.std.specs.Ordering.{eq_by_cmp, is_eq, on, then_cmp}
@@ -16,7 +16,6 @@ use Rattle.core_model.specs.declared.step.Step.{Step}
 use Rattle.core_model.specs.declared.step.Step.TheVariants as step
 use Rattle.plain_model.specs.Keys.{key_of}
 use Rattle.core_model.specs.FileChanges.{drawn_by}
-
 use Rattle.world_state.specs.Changes.{keys_drawn}
 use Rattle.world_state.specs.Parts.{AreDrawn, Drawn, with_all}
 
@@ -57,9 +56,11 @@ drawn_one m rs k h r = (λ e. there (eq_by_cmp region_cmp r k) refl (sym (ap is_
     there : (b : Bool) → eq_by_cmp region_cmp r k ≡ b → is_some (cond (eq_by_cmp region_cmp r k) (Some tt) (get m r)) ≡ true → Member r (rs ++ k ∷ [])
     there true e i = behind r rs (k ∷ []) (inl (sym (same_region r k e)))
     there false e i = front r rs (k ∷ []) ((h r).0 (sym (ap (λ b. is_some (cond b (Some tt) (get m r))) e) ∙ i))
+
     or_else : (b : Bool) → is_some (get m r) ≡ true → is_some (cond b (Some tt) (get m r)) ≡ true
     or_else true i = refl
     or_else false i = i
+
     here : Member r rs ⊎ Member r (k ∷ []) → is_some (cond (eq_by_cmp region_cmp r k) (Some tt) (get m r)) ≡ true
     here (inl i) = or_else (eq_by_cmp region_cmp r k) ((h r).1 i)
     here (inr (inl e)) = ap (λ b. is_some (cond b (Some tt) (get m r))) (region_self r k (sym e))

@@ -1,6 +1,6 @@
 -- Room for a step that is prepared, and for the ends of activities.
-use Rattle.std.proofs.Common.{◌≡◌, ℕ, ◌+◌, ◌≤◌, ◌<◌, ◌==◌, Bool, true, false, not, cond, List, [], ◌∷◌, ◌++◌, length, map, find, Option, Some, None, IfSome, inl, inr, refl, sym, ap, subst, ◌∙◌, arith, length-append}
-use Rattle.std.specs.List.{All, filter}
+use Rattle.std.proofs.Common.{◌≡◌, ℕ, ◌+◌, ◌≤◌, ◌<◌, ◌==◌, Bool, true, false, not, cond, List, [], ◌∷◌, ◌++◌, length, map, find, Some, IfSome, inl, inr, refl, sym, ap, subst, ◌∙◌, arith, length-append}
+use Rattle.std.specs.List.{filter}
 use Rattle.std.specs.Prelude.{IsSome, vec_len, vec_capacity}
 use Rattle.std.proofs.lemmas.List.Elements.{All-nil}
 use Rattle.plain_model.specs.declared.parts.Live.{Live}
@@ -18,7 +18,6 @@ use Rattle.core_sites.specs.Shows.{MakesSpelled}
 use Rattle.world_state.specs.declared.at_work.AtWork.{AtWork}
 use Rattle.world_state.specs.declared.at_work.WorkChange.{WorkChange}
 use Rattle.world_state.specs.declared.at_work.WorkChange.TheVariants as work
-use Rattle.world_state.specs.declared.change.Change.{Change}
 use Rattle.world_state.specs.declared.kept.Core.TheInside.{Inside}
 use Rattle.world_state.specs.declared.state.CoreState.{CoreState}
 use Rattle.world_state.specs.Changes.{change_by, change_made, nothing, ended, work_change}

@@ -1,5 +1,5 @@
 -- What a step, and an entry, change of each part of the state that is kept at run time.
-use Rattle.std.specs.Prelude.{ℕ, ◌≡◌, Bool, true, false, List, [], length, map, Option, Some, None}
+use Rattle.std.specs.Prelude.{ℕ, Bool, true, false, List, [], length, map, Option, Some, None}
 use Rattle.plain_model.specs.declared.job.Job.{Job}
 use Rattle.plain_model.specs.declared.region_key.RegionKey.{RegionKey}
 use Rattle.plain_model.specs.declared.who.Actor.{Actor}

@@ -1,5 +1,5 @@
 -- A core as contracts see it.
-use Rattle.std.specs.Prelude.{List, length, Option}
+use Rattle.std.specs.Prelude.{List, Option}
 use Rattle.core_model.specs.declared.journal.JournalEntry.{JournalEntry}
 use Rattle.core_model.specs.declared.opening.Opening.{Opening}
 use Rattle.core_model.specs.declared.step.Step.{Step}

@@ -2,7 +2,6 @@
 use Rattle.std.specs.Prelude.{◌≡◌, ◌↔◌, ℕ, true, List, map, unwrap_or}
 use Rattle.std.specs.FinMap.{contains_key, from_entries}
 use Rattle.cell_sight.specs.Member.{Member}
-use Rattle.hb_cell.specs.Order.{bytes_cmp}
 use Rattle.ns_tree.specs.Tree.{Tree}
 use Rattle.core_model.specs.declared.found.Found.{Found}
 use Rattle.core_model.specs.declared.opening.Opening.{Opening}

@@ -1,6 +1,6 @@
 -- The parts of the state as they are kept at run time, and what a change makes of each.
 use Rattle.std.specs.Prelude.{◌≡◌, ◌↔◌, ℕ, ◌+◌, ◌==◌, Bool, true, not, cond, List, [], ◌∷◌, ◌++◌, map, Option, Some, None, option_map}
-use Rattle.std.specs.List.{AllByRecursion, filter}
+use Rattle.std.specs.List.{AllByRecursion, filter, find}
 use Rattle.std.specs.FinMap.{FinMap, contains_key, empty, from_entries, get, insert, remove}
 use Rattle.cell_sight.specs.Member.{Member}
 use Rattle.hb_cell.specs.Order.{bytes_cmp}
@@ -100,6 +100,10 @@ sets_with (sets.Commits table) set newest = with_set table set newest
 sets_with (sets.Drops table number) set newest = cond (set_number (get newest table) == number) (remove newest table) newest
 
 -- ---- activities
+
+-- the activity of this number
+abbrev pub work_of : List AtWork → ℕ → Option AtWork
+work_of works actor = find (λ (work : AtWork). work.live.actor.0 == actor) works
 
 -- an activity whose plan is built
 abbrev pub freed : ℕ → AtWork → AtWork

@@ -1,9 +1,9 @@
 //! Activities at work.
 
-ghost use Rattle.std.specs.Prelude.{◌≡◌, ◌<◌, map, vec_len, vec_capacity, IfOk};
+ghost use Rattle.std.specs.Prelude.{◌≡◌, ◌<◌, map, vec_len, vec_capacity, IfOk, option_copied};
 ghost use Rattle.std.specs.List.{filter};
 ghost use Rattle.world_state.specs.Changes.{begins, work_change};
-ghost use Rattle.world_state.specs.Parts.{freed, is_not, works_with};
+ghost use Rattle.world_state.specs.Parts.{freed, is_not, work_of, works_with};
 ghost use Rattle.world_state.specs.Rooms.{GivesBegun, GivesLive, OnBegin};
 
 use core_model::{Drawn, Plan, Started, Step};
@@ -79,6 +79,18 @@ fn begins(
         })),
         _ => Ok(WorkChange::Same),
     }
+}
+
+/// The activity of a number.
+pub(crate) fn work_of(works: &[AtWork], actor: Actor) -> Option<&AtWork>
+    ensures { option_copied result ≡ work_of works.now actor.0 }
+{
+    for work in works {
+        if work.live.actor == actor {
+            return Some(work);
+        }
+    }
+    None
 }
 
 /// Takes no memory.

@@ -26,11 +26,7 @@ pub(crate) fn keys_drawn(alloc: Global, step: &Step) -> Result<Items<RegionKey>,
     }
 }
 
-fn start_keys(
-    alloc: Global,
-    started: &Started,
-    drawn: &Drawn,
-) -> Result<Items<RegionKey>, NoMemory>
+fn start_keys(alloc: Global, started: &Started, drawn: &Drawn) -> Result<Items<RegionKey>, NoMemory>
     ensures { IfOk result (λ keys. keys ≡ start_keys started.now drawn.now) }
 {
     match started {

@@ -1,27 +1,33 @@
 //! A core: what the entries of a journal made of the state.
 
-ghost use Rattle.std.specs.Prelude.{◌≡◌, ◌↔◌, ◌+◌, ◌≤◌, ◌++◌, ◌∷◌, [], true, length, map, vec_len, vec_capacity, Some, None, IfOk, OnOk, OnErr, is_some, option_copied};
+ghost use Rattle.std.specs.Prelude.{◌≡◌, ◌↔◌, ◌+◌, ◌≤◌, ◌++◌, ◌∷◌, [], true, length, map, vec_len, vec_capacity, Some, None, IfOk, IfSome, OnOk, OnErr, is_some, option_copied, option_map};
 ghost use Rattle.std.specs.FinMap as maps;
 ghost use Rattle.std.specs.List.{AllByRecursion};
 ghost use Rattle.cell_sight.specs.Member.{Member};
 ghost use Rattle.core_model.specs.Allows.{AllowsEntry};
 ghost use Rattle.core_model.specs.Disk.{is_regular};
-ghost use Rattle.core_model.specs.Site.{Site, site_text};
+ghost use Rattle.core_model.specs.FileChanges.{set_number};
+ghost use Rattle.core_model.specs.Site.{Site, Tmp, site_text};
+ghost use Rattle.plain_model.specs.LiveEvents.{live_of};
 ghost use Rattle.core_places.specs.Served.{IsServed};
 ghost use Rattle.world_state.specs.Held.{parts_of, state_of};
 ghost use Rattle.world_state.specs.Opened.{HasFound};
-ghost use Rattle.world_state.specs.Parts.{IsReplay};
+ghost use Rattle.world_state.specs.Parts.{IsReplay, recorded};
 ghost use Rattle.world_state.specs.Rooms.{GivesBegun, NeedsReady};
 ghost use Rattle.world_state.specs.Works.{IsWork, live_in};
 
-use crate::at_work::{AtWork, Begun};
+use crate::at_work::{AtWork, Begun, work_of};
 use crate::change::Change;
+use crate::counts::Counts;
+use crate::sets::number_of;
 use crate::state::CoreState;
+use crate::written::WrittenFile;
 use core_model::{Found, Journal, JournalEntry, Opening, Step};
+use hb_file_names::FileName;
 use hb_ghost::{Ghost, Reads};
 use hb_names::{Place, SnapName, TableName};
 use hb_wire::{Items, NoMemory};
-use plain_model::RegionKey;
+use plain_model::{Actor, RegionKey};
 use region_set::RegionSet;
 use std::alloc::{AllocError, Global};
 use std::marker::Model;
@@ -128,6 +134,29 @@ impl Core {
         }
     }
 
+    /// What the journal began with.
+    pub fn opening(&self) -> &Opening
+        ensures { result.now ≡ self.now.opening }
+    {
+        &self.opening
+    }
+
+    /// The entries of the journal.
+    pub fn entries(&self) -> &[JournalEntry]
+        ensures { result.now ≡ self.now.entries }
+    {
+        self.entries.as_slice()
+    }
+
+    /// How many file names and region ids were drawn since the opening, and how many actors have begun.
+    pub fn counts(&self) -> Counts
+        ensures files { result.files ≡ (parts_of self.now).files }
+        ensures ids { result.ids ≡ (parts_of self.now).ids }
+        ensures begun { result.begun ≡ (parts_of self.now).begun }
+    {
+        self.state.counts
+    }
+
     /// The number of the entry at which the store closed.
     pub fn closed(&self) -> Option<u32>
         ensures { result ≡ (state_of self.now).closed }
@@ -150,6 +179,28 @@ impl Core {
         self.state.works.as_slice()
     }
 
+    /// The activity of an actor, where it is at work.
+    pub fn work(&self, actor: Actor) -> Option<&AtWork>
+        ensures live { option_map live_in (option_copied result) ≡ live_of (parts_of self.now).plain.live actor.0 }
+        ensures work { IfSome (option_copied result) (IsWork (parts_of self.now).begun (parts_of self.now).owners (parts_of self.now).plans) }
+    {
+        work_of(self.works(), actor)
+    }
+
+    /// Whether an actor is at work.
+    pub fn alive(&self, actor: Actor) -> bool
+        ensures { result ≡ is_some (live_of (parts_of self.now).plain.live actor.0) }
+    {
+        self.work(actor).is_some()
+    }
+
+    /// Who wrote a temporary file that stands, and of what.
+    pub fn written(&self, name: &FileName) -> Option<&WrittenFile>
+        ensures { option_copied result ≡ recorded ((parts_of self.now).disk (Tmp name.now)) ((parts_of self.now).written name.now) }
+    {
+        self.state.written.get(name)
+    }
+
     /// Whether a file stands at a place of the layout.
     pub fn stands(&self, place: &Place) -> bool
         ensures { (q : Site) → is_regular q ≡ true → site_text q ≡ place.now → result ≡ is_some ((parts_of self.now).disk q) }
@@ -169,6 +220,20 @@ impl Core {
         ensures { option_copied result ≡ maps.get (parts_of self.now).sets table.now }
     {
         self.state.sets.get(table)
+    }
+
+    /// The number of a table's newest region set: 0 where it has none.
+    pub fn set_number(&self, table: &TableName) -> u64
+        ensures { result ≡ set_number (maps.get (parts_of self.now).sets table.now) }
+    {
+        number_of(&self.state.sets, table)
+    }
+
+    /// Whether a snapshot is complete.
+    pub fn has_snapshot(&self, name: &SnapName) -> bool
+        ensures { result ≡ maps.contains_key (parts_of self.now).snapshots name.now }
+    {
+        self.state.snapshots.contains_key(name)
     }
 
     /// The names of the complete snapshots, in order.

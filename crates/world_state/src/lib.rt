@@ -16,3 +16,6 @@ pub use counts::Counts;
 pub use kept::Core;
 pub use state::CoreState;
 pub use written::WrittenFile;
+
+#[cfg(test)]
+mod tests;

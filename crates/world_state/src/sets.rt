@@ -65,10 +65,12 @@ pub(crate) fn set_of(file: Option<WrittenFile>) -> Option<RegionSet>
     ensures { result ≡ set_in file }
 {
     match file {
-        Some(WrittenFile {
-            actor: _,
-            recipe: Recipe::Set(_, set),
-        }) => Some(set),
+        Some(
+            WrittenFile {
+                actor: _,
+                recipe: Recipe::Set(_, set),
+            },
+        ) => Some(set),
         _ => None,
     }
 }
@@ -89,11 +91,7 @@ pub(crate) fn sets_after(
     }
 }
 
-fn put_set(
-    sets: &mut ReservedMap<TableName, RegionSet>,
-    table: &TableName,
-    set: Option<RegionSet>,
-)
+fn put_set(sets: &mut ReservedMap<TableName, RegionSet>, table: &TableName, set: Option<RegionSet>)
     requires { is_reserved bytes_cmp sets.old table.now ≡ true }
     ensures { filled bytes_cmp sets.new ≡ with_set table.now set (filled bytes_cmp sets.old) }
 {

@@ -61,11 +61,7 @@ fn adds(actor: Actor, recipe: &Recipe, name: &FileName) -> Result<WrittenChange,
     }
 }
 
-fn file_of_set(
-    actor: Actor,
-    table: &TableName,
-    set: &RegionSet,
-) -> Result<WrittenFile, NoMemory>
+fn file_of_set(actor: Actor, table: &TableName, set: &RegionSet) -> Result<WrittenFile, NoMemory>
     ensures { IfOk result (λ file. file ≡ record { actor = actor.0; recipe = Recipe.Set table.now set.now }) }
 {
     Ok(WrittenFile {

@@ -1,5 +1,5 @@
 use Rattle.std.proofs.Common.{◌≡◌, ◌∙◌, sym, subst, true}
-use Rattle.reserved_map.specs.Filled.{filled, is_reserved}
+use Rattle.reserved_map.specs.Filled.{is_reserved}
 use Rattle.reserved_map.specs.Keys.{region_cmp}
 use Rattle.world_state.proofs.Regions.{one_more}
 use Rattle.world_state.proofs.drawn.drawn_after.Goals as goal

@@ -31,8 +31,8 @@ invariant_of-self c =
     let a = c.self.inside in
     let e = c.args.entry in
     applied a _ e c.len-number.result c.requires.served
-        (ready a _ e.step c.self.view_is c.requires.prepared c.self.invariant.room.prepared)
-        (allowed_here a _ e c.self.view_is c.requires.allowed) c.self.invariant
-        refl c.push_reserved.ensures.items c.push_reserved.ensures.len c.push_reserved.ensures.capacity c.no_step.ensures
-        (c.len-number.ensures ∙ a.entries.ok.0)
-        (subst (λ x. IsAfter x c.len-number.result e.failed a.state c.enter.new.self) c.of_entry-change.ensures c.enter.ensures)
+    (ready a _ e.step c.self.view_is c.requires.prepared c.self.invariant.room.prepared)
+    (allowed_here a _ e c.self.view_is c.requires.allowed) c.self.invariant
+    refl c.push_reserved.ensures.items c.push_reserved.ensures.len c.push_reserved.ensures.capacity c.no_step.ensures
+    (c.len-number.ensures ∙ a.entries.ok.0)
+    (subst (λ x. IsAfter x c.len-number.result e.failed a.state c.enter.new.self) c.of_entry-change.ensures c.enter.ensures)

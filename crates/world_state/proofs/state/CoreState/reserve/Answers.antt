@@ -1,4 +1,4 @@
-use Rattle.std.proofs.Common.{◌≡◌, ◌<◌, true, subst, vec_len, vec_capacity, arith}
+use Rattle.std.proofs.Common.{◌≡◌, true, subst, arith}
 use Rattle.std.specs.List.{All}
 use Rattle.reserved_map.specs.Filled.{is_reserved}
 use Rattle.reserved_map.specs.Keys.{region_cmp}
