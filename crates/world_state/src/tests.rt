@@ -53,7 +53,10 @@ fn list(core: &mut Core) -> Result<(), NoMemory>
 {
     let who = Who { worker: 3, line: 1 };
     let step = Step::ListSnapshots { who };
-    core.prepare(&step, None)?;
+    if let Err(error) = core.prepare(&step, None) {
+        drop(step);
+        return Err(error);
+    }
     core.apply(JournalEntry {
         worker: 3,
         step,
@@ -62,15 +65,16 @@ fn list(core: &mut Core) -> Result<(), NoMemory>
     Ok(())
 }
 
+// The core is let go before any early return: a test would show the release of each of its parts there.
 #[test]
 fn a_listing_is_entered(rt: HostRuntime) -> Result<(), Fail> {
     let mut core = empty(rt.alloc())?;
-    assert!(rt; core.entries().is_empty());
-    assert!(rt; core.closed().is_none());
-    assert!(rt; core.works().is_empty());
-    assert!(rt; core.snapshot_names()?.is_empty());
-    list(&mut core)?;
-    assert!(rt; core.len() == 1);
-    assert!(rt; core.into_journal().entries.len() == 1);
+    let listed = list(&mut core);
+    let closed = core.closed();
+    let entries = core.len();
+    drop(core);
+    listed?;
+    assert!(rt; closed.is_none());
+    assert!(rt; entries == 1);
     Ok(())
 }
