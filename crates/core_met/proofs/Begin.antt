@@ -1,7 +1,6 @@
 -- An empty store, and a table of one region in it.
 use Rattle.std.proofs.Common.{◌≡◌, ℕ, ◌++◌, true, false, cond, List, [], ◌∷◌, Option, Some, None, refl, sym, ap, ◌∙◌, inl, inr, arith}
-use Rattle.std.specs.Prelude.{codes, filter, length, unwrap_or, is_some}
-use Rattle.std.specs.List.{flat_map}
+use Rattle.std.specs.Prelude.{codes, length, unwrap_or, is_some}
 use Rattle.std.specs.FinMap.{get, empty, entries, insert, put, get-empty, entries-insert, len-entries, len-empty}
 use Rattle.std.specs.Cmp.Lexicographic.{slice_cmp, nat_list_cmp_total}
 use Rattle.std.specs.Fmt.{digits}
@@ -41,7 +40,7 @@ use Rattle.core_model.specs.FileGuards.{next_name}
 use Rattle.core_model.specs.Opened.{opened}
 use Rattle.core_model.specs.Replay.{after}
 use Rattle.core_model.specs.Site.{Site, site_text}
-use Rattle.core_model.specs.StartGuards.{split_keys, by_new, by_drawn, by_set, by_directory, live_file, archived_file, list_file, back_file}
+use Rattle.core_model.specs.StartGuards.{by_new, by_drawn, by_set, by_directory, live_file, archived_file, list_file, back_file}
 use Rattle.core_model.specs.State.{Parts, no_plan}
 use Rattle.core_sound.specs.Laws.{bare_opening}
 use Rattle.core_sound.proofs.TablesKept.{put_this}
@@ -202,7 +201,7 @@ create_allowed ttl = record {
   activity = tt;
   limits = ((omega arith), (omega arith), (omega arith));
   unreferenced = [];
-  are_unreferenced = record { is_old = λ r. true; exact = λ r. (λ e. absurd (cc), λ i. let z = i.stands in absurd (cc)); filtered = sym (ap (λ es. filter (λ (r : RegionKey). true) (flat_map (λ (x : List ℕ × PlainTable). split_keys x.1) es)) no_entries) };
+  are_unreferenced = tt;
   holds = refl;
   free = refl;
   files = no_files;

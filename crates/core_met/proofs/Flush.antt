@@ -1,7 +1,7 @@
 -- A journal that makes a table, puts a cell and flushes it.
 use Rattle.std.proofs.Common.{◌≡◌, ℕ, true, false, cond, List, [], ◌∷◌, Option, Some, None, refl, sym, ap, ◌∙◌, inl, arith}
 use Rattle.std.specs.Prelude.{codes, map, not, option_map, unwrap_or, is_some}
-use Rattle.std.specs.List.{flat_map, list_any}
+use Rattle.std.specs.List.{list_any}
 use Rattle.std.specs.FinMap.{get, entries, insert, put, entries-insert}
 use Rattle.std.specs.Cmp.Lexicographic.{nat_list_cmp_total}
 use Rattle.hex.specs.Hex.{encode_with}
@@ -33,13 +33,11 @@ use Rattle.core_model.specs.Allows.{Allows}
 use Rattle.core_model.specs.Entries.{IsBase, no_list, region_list}
 use Rattle.core_model.specs.FileGuards.{next_name}
 use Rattle.core_model.specs.Replay.{after}
-use Rattle.core_model.specs.Disk.{live_of}
-use Rattle.core_model.specs.StartGuards.{split_keys}
 use Rattle.core_model.specs.State.{Parts, no_plan}
 use Rattle.core_sound.proofs.TablesKept.{put_this}
 use Rattle.core_met.specs.Met.{cell}
 use Rattle.core_met.proofs.Begin.{info, key, key_is, tab, who, s4, no_tables, no_entries}
-use Rattle.core_met.proofs.Starts.{none_unreferenced, no_new_files}
+use Rattle.core_met.proofs.Starts.{no_new_files}
 
 abbrev pub tables : Names PlainTable
 tables = insert no_tables (codes "t") tab
@@ -145,15 +143,12 @@ put_allowed ttl = record {
   );
 }
 
-pub none_split : flat_map (λ (x : List ℕ × PlainTable). split_keys x.1) (entries tables) ≡ []
-none_split = ap (λ es. flat_map (λ (x : List ℕ × PlainTable). split_keys x.1) es) tables_are
-
 pub start_allowed : (ttl : ℕ) → Allows start (t1 ttl)
 start_allowed ttl = record {
   activity = tt;
   limits = tt;
   unreferenced = [];
-  are_unreferenced = none_unreferenced (live_of (t1 ttl).disk) (t1 ttl).plain (λ b f e. absurd (cc)) none_split;
+  are_unreferenced = tt;
   holds = ap (λ (r : RegionKey). holds.Flush r ∷ []) (sym key_is) ∙ sym (ap (λ (o : Option PlainTable). map holds.Flush (map key_of (open_of (regions_in o)))) table_is);
   free = refl;
   files = no_files;

@@ -1,15 +1,10 @@
 -- A snapshot of the table behind the flush.
-use Rattle.std.proofs.Common.{◌≡◌, ℕ, true, false, cond, [], ◌∷◌, Option, Some, None, refl, sym, ap, ◌∙◌, subst, inl}
+use Rattle.std.proofs.Common.{◌≡◌, ℕ, true, false, [], ◌∷◌, Option, Some, None, refl, sym, ap, ◌∙◌, subst, inl}
 use Rattle.std.specs.Prelude.{codes, map, not, option_map, unwrap_or, is_some}
 use Rattle.std.specs.List.{filter_map, cons_option, AllByRecursion}
 use Rattle.std.specs.FinMap.{get, empty, get-empty}
 use Rattle.hb_cell.specs.Order.{bytes_cmp}
-use Rattle.hb_layout.specs.declared.base.Base.{Base}
-use Rattle.ns_tree.specs.declared.file.FileState.{FileState}
 use Rattle.core_model.specs.declared.entry.Entry.TheVariants.{Own}
-use Rattle.core_model.specs.Keys.{same_base}
-use Rattle.core_model.specs.Disk.{live_of}
-use Rattle.core_sound.proofs.Tests.{cond_cases, same_base-true}
 use Rattle.plain_model.specs.declared.hold.Hold.TheVariants as holds
 use Rattle.plain_model.specs.declared.job.Job.TheVariants as jobs
 use Rattle.plain_model.specs.declared.parts.PlainSnapshot.{PlainSnapshot}
@@ -36,8 +31,8 @@ use Rattle.core_model.specs.SnapshotGuards.{snapshot_of, copied}
 use Rattle.core_model.specs.State.{Parts, no_plan}
 use Rattle.core_sound.proofs.TablesKept.{put_this}
 use Rattle.core_met.proofs.Begin.{info, key, key_is, schema, tab, who}
-use Rattle.core_met.proofs.Flush.{base, flusher, t7, tables, table_is, none_split, list}
-use Rattle.core_met.proofs.Starts.{has_dot, none_unreferenced, no_new_files}
+use Rattle.core_met.proofs.Flush.{base, flusher, t7, tables, table_is, list}
+use Rattle.core_met.proofs.Starts.{no_new_files}
 
 abbrev pub taker : Actor
 taker = record { 0 = 2 }
@@ -81,17 +76,12 @@ complete = step.Complete taker (codes "n") shot
 abbrev pub u5 : ℕ → Parts
 u5 ttl = after complete (u4 ttl)
 
-pub plain_name : (b : Base) (f : FileState) → cond (same_base b base) (Some (record { bytes = []; moment = 0 })) None ≡ Some f → has_dot b.name ≡ false
-plain_name b f e = cond_cases (same_base b base) (Some (record { bytes = []; moment = 0 })) None (Some f) e
-    (λ d i. ap (λ (x : Base). has_dot x.name) (same_base-true b base d))
-    (λ d i. absurd (cc))
-
 pub take_allowed : (ttl : ℕ) → Allows take (u0 ttl)
 take_allowed ttl = record {
   activity = tt;
   limits = tt;
   unreferenced = [];
-  are_unreferenced = none_unreferenced (live_of (u0 ttl).disk) (u0 ttl).plain plain_name none_split;
+  are_unreferenced = tt;
   holds = refl;
   free = refl;
   files = no_files;

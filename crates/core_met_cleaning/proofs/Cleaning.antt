@@ -1,9 +1,7 @@
 -- A pass that deletes the archived file.
-use Rattle.std.proofs.Common.{◌≡◌, ℕ, ◌+◌, true, false, cond, List, [], ◌∷◌, Some, None, refl, ap, arith}
+use Rattle.std.proofs.Common.{◌≡◌, ℕ, ◌+◌, false, List, [], ◌∷◌, Some, None, refl, ap, arith}
 use Rattle.std.specs.Prelude.{map}
 use Rattle.std.specs.FinMap.{empty, keys}
-use Rattle.hb_layout.specs.declared.base.Base.{Base}
-use Rattle.ns_tree.specs.declared.file.FileState.{FileState}
 use Rattle.plain_model.specs.declared.hold.Hold.TheVariants as holds
 use Rattle.plain_model.specs.declared.job.Job.TheVariants as jobs
 use Rattle.plain_model.specs.declared.who.Actor.{Actor}
@@ -14,15 +12,12 @@ use Rattle.core_model.specs.declared.step.Started.TheVariants as started
 use Rattle.core_model.specs.declared.step.Step.{Step}
 use Rattle.core_model.specs.declared.step.Step.TheVariants as step
 use Rattle.core_model.specs.Allows.{Allows}
-use Rattle.core_model.specs.Disk.{live_of}
-use Rattle.core_model.specs.Keys.{same_base}
 use Rattle.core_model.specs.Replay.{after}
 use Rattle.core_model.specs.State.{Parts, no_plan}
-use Rattle.core_sound.proofs.Tests.{cond_cases, same_base-true}
 use Rattle.core_met.proofs.Begin.{who, no_entries}
-use Rattle.core_met.proofs.Flush.{base, none_split}
-use Rattle.core_met.proofs.Starts.{has_dot, none_unreferenced, no_new_files}
-use Rattle.core_met_cleaning.proofs.Compacting.{output, empty_file, c10}
+use Rattle.core_met.proofs.Flush.{base}
+use Rattle.core_met.proofs.Starts.{no_new_files}
+use Rattle.core_met_cleaning.proofs.Compacting.{c10}
 
 abbrev pub cleaner : Actor
 cleaner = record { 0 = 3 }
@@ -46,18 +41,12 @@ d2 ttl = after delete (d1 ttl)
 abbrev pub d3 : ℕ → Parts
 d3 ttl = after cleaned (d2 ttl)
 
--- no live file's name has a dot
-plain_names : (b : Base) (f : FileState) → cond (same_base b base) None (cond (same_base b base) (Some (record { bytes = []; moment = 9 })) (cond (same_base b output) (Some empty_file) (cond (same_base b base) (Some empty_file) None))) ≡ Some f → has_dot b.name ≡ false
-plain_names b f e = cond_cases (same_base b output) (Some empty_file) None (Some f) ((elim (same_base b base) as (λ c. cond c None (cond c (Some (record { bytes = []; moment = 9 })) (cond (same_base b output) (Some empty_file) (cond c (Some empty_file) None))) ≡ Some f → cond (same_base b output) (Some empty_file) None ≡ Some f) [ true ↦ λ e. absurd (cc) | false ↦ λ e. e ]) e)
-    (λ d i. ap (λ (x : Base). has_dot x.name) (same_base-true b output d))
-    (λ d i. absurd (cc))
-
 pub clean_allowed : (ttl : ℕ) → Allows (clean ttl) (c10 ttl)
 clean_allowed ttl = record {
   activity = tt;
   limits = tt;
   unreferenced = [];
-  are_unreferenced = none_unreferenced (live_of (c10 ttl).disk) (c10 ttl).plain plain_names none_split;
+  are_unreferenced = tt;
   holds = refl;
   free = refl;
   files = no_files;

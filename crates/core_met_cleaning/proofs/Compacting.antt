@@ -30,7 +30,6 @@ use Rattle.core_model.specs.declared.step.Step.TheVariants as step
 use Rattle.cell_sight.specs.Member.{Member}
 use Rattle.core_model.specs.Actors.{HasHold, IsFree}
 use Rattle.core_model.specs.Allows.{Allows}
-use Rattle.core_model.specs.Disk.{live_of}
 use Rattle.core_model.specs.Entries.{IsBase, base_of, no_list, region_list}
 use Rattle.core_model.specs.FileGuards.{next_name}
 use Rattle.core_model.specs.ListGuards.{Merge, IsOutput}
@@ -41,10 +40,10 @@ use Rattle.core_sound.proofs.Tests.{cond_cases}
 use Rattle.core_met.specs.Met.{cell}
 use Rattle.core_met.proofs.Begin.{key, key_is, who}
 use Rattle.core_met.proofs.Choices.{chosen, chosen_each}
-use Rattle.core_met.proofs.Flush.{base, tables, table_is, none_split, in_set, list}
+use Rattle.core_met.proofs.Flush.{base, tables, table_is, in_set, list}
 use Rattle.core_met.proofs.Lawful.{base_lawful}
-use Rattle.core_met.proofs.Shot.{u0, plain_name}
-use Rattle.core_met.proofs.Starts.{none_unreferenced, no_new_files}
+use Rattle.core_met.proofs.Shot.{u0}
+use Rattle.core_met.proofs.Starts.{no_new_files}
 
 abbrev pub compactor : Actor
 compactor = record { 0 = 2 }
@@ -141,7 +140,7 @@ compact_allowed ttl = record {
   activity = tt;
   limits = tt;
   unreferenced = [];
-  are_unreferenced = none_unreferenced (live_of (u0 ttl).disk) (u0 ttl).plain plain_name none_split;
+  are_unreferenced = tt;
   holds = ap (λ (r : RegionKey). holds.Compact r ∷ []) (sym key_is) ∙ sym (ap (λ (o : Option PlainTable). map holds.Compact (map key_of (open_of (regions_in o)))) table_is);
   free = refl;
   files = no_files;

@@ -37,7 +37,6 @@ use Rattle.core_model.specs.declared.step.Step.{Step}
 use Rattle.core_model.specs.declared.step.Step.TheVariants as step
 use Rattle.core_model.specs.Actors.{IsRegion}
 use Rattle.core_model.specs.Allows.{Allows}
-use Rattle.core_model.specs.Disk.{live_of}
 use Rattle.core_model.specs.Entries.{IsKey, no_list, region_list}
 use Rattle.core_model.specs.FileChanges.{set_number}
 use Rattle.core_model.specs.FileGuards.{next_name}
@@ -52,10 +51,9 @@ use Rattle.core_sound.proofs.Tests.{cond_cases, same_base-true}
 use Rattle.core_sound.proofs.TablesKept.{put_this, put_other}
 use Rattle.core_met.specs.Met.{cell}
 use Rattle.core_met.proofs.Begin.{info, key, key_is, schema, set, tab, who, no_tables, not_two}
-use Rattle.core_met.proofs.Flush.{base, tables, table_is, none_split}
+use Rattle.core_met.proofs.Flush.{base, tables, table_is}
 use Rattle.core_met.proofs.Lawful.{base_lawful}
-use Rattle.core_met.proofs.Shot.{taker, shot, u4, u5, plain_name}
-use Rattle.core_met.proofs.Starts.{none_unreferenced}
+use Rattle.core_met.proofs.Shot.{taker, shot, u4, u5}
 
 -- ---- the state with the snapshot, as its plain copy is
 
@@ -244,7 +242,7 @@ clone_allowed ttl = record {
   activity = tt;
   limits = tt;
   unreferenced = [];
-  are_unreferenced = none_unreferenced (live_of (v0 ttl).disk) (v0 ttl).plain plain_name none_split;
+  are_unreferenced = tt;
   holds = refl;
   free = refl;
   files = no_files;

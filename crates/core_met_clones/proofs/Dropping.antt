@@ -1,12 +1,9 @@
 -- The first table is disabled and dropped, and its file archived.
 use Rattle.std.proofs.Common.{◌≡◌, ℕ, ◌==◌, false, cond, List, [], ◌∷◌, Option, Some, None, refl, sym, ap, ◌∙◌, subst, inl, inr, arith}
 use Rattle.std.specs.Prelude.{codes, map, not, unwrap_or, is_some}
-use Rattle.std.specs.List.{flat_map, AllByRecursion}
-use Rattle.std.specs.FinMap.{get, empty, entries, insert, remove, put, entries-insert}
-use Rattle.std.specs.Cmp.Lexicographic.{nat_list_cmp_total}
+use Rattle.std.specs.List.{AllByRecursion}
+use Rattle.std.specs.FinMap.{get, empty, entries, insert, remove}
 use Rattle.hex.specs.Hex.{encode_with}
-use Rattle.hb_cell.specs.Order.{bytes_cmp}
-use Rattle.hb_layout.specs.declared.base.Base.{Base}
 use Rattle.ns_tree.specs.declared.file.FileState.{FileState}
 use Rattle.region_set.specs.declared.region_set.RegionSet.{RegionSet}
 use Rattle.region_set.specs.declared.set_state.SetState.TheVariants as states
@@ -22,7 +19,7 @@ use Rattle.plain_model.specs.Keys.{key_of, same_key}
 use Rattle.plain_model.specs.Names.{Names, change_found}
 use Rattle.plain_model.specs.Replies.{first, when, no_files}
 use Rattle.plain_model.specs.Rows.{open_of}
-use Rattle.core_model.specs.declared.entry.Entry.TheVariants.{Own, Link}
+use Rattle.core_model.specs.declared.entry.Entry.TheVariants.{Own}
 use Rattle.core_model.specs.declared.recipe.Recipe.TheVariants as recipes
 use Rattle.core_model.specs.declared.region_files.RegionFiles.{RegionFiles}
 use Rattle.core_model.specs.declared.step.Started.TheVariants as started
@@ -31,22 +28,19 @@ use Rattle.core_model.specs.declared.step.Step.TheVariants as step
 use Rattle.cell_sight.specs.Member.{Member}
 use Rattle.core_model.specs.Actors.{IsRegion, IsFree}
 use Rattle.core_model.specs.Allows.{Allows}
-use Rattle.core_model.specs.Disk.{live_of}
-use Rattle.core_model.specs.Entries.{file_of, no_list}
+use Rattle.core_model.specs.Entries.{no_list}
 use Rattle.core_model.specs.FileChanges.{set_number}
 use Rattle.core_model.specs.FileGuards.{next_name}
-use Rattle.core_model.specs.Keys.{same_base}
 use Rattle.core_model.specs.Replay.{after}
-use Rattle.core_model.specs.StartGuards.{split_keys}
 use Rattle.core_model.specs.State.{Parts, no_plan}
 use Rattle.region_set.specs.RegionSet.{IsRegionSet}
-use Rattle.core_sound.proofs.Tests.{cond_cases, same_base-true, same_key-true}
+use Rattle.core_sound.proofs.Tests.{cond_cases, same_key-true}
 use Rattle.core_sound.proofs.TablesKept.{put_this, put_other, taken_at, taken_other}
 use Rattle.core_met.proofs.Begin.{info, key, key_is, schema, set, tab, who}
 use Rattle.core_met.proofs.Choices.{chosen}
-use Rattle.core_met.proofs.Flush.{base, tables, table_is, tables_are, list}
+use Rattle.core_met.proofs.Flush.{base, tables, table_is, list}
 use Rattle.core_met.proofs.Lawful.{base_lawful}
-use Rattle.core_met.proofs.Starts.{has_dot, none_unreferenced, no_new_files}
+use Rattle.core_met.proofs.Starts.{no_new_files}
 use Rattle.core_met_clones.proofs.Cloning.{cloned, info2, key2, key2_is, tab2, set2, list2, tables2, w0}
 
 abbrev pub w1 : ℕ → Parts
@@ -166,32 +160,12 @@ x7 ttl = after dropped (x6 ttl)
 abbrev empty_file : FileState
 empty_file = record { bytes = []; moment = 0 }
 
--- neither the file's name nor the link's has a dot
-plain_names : (b : Base) (f : FileState) → cond (same_base b (file_of key2 (Link base))) (Some empty_file) (cond (same_base b base) (Some empty_file) None) ≡ Some f → has_dot b.name ≡ false
-plain_names b f e = cond_cases (same_base b (file_of key2 (Link base))) (Some empty_file) (cond (same_base b base) (Some empty_file) None) (Some f) e
-    (λ d i. ap (λ (x : Base). has_dot x.name) (same_base-true b (file_of key2 (Link base)) d))
-    (λ d i. cond_cases (same_base b base) (Some empty_file) None (Some f) i
-    (λ d i. ap (λ (x : Base). has_dot x.name) (same_base-true b base d))
-    (λ d i. absurd (cc)))
-
-abbrev Tables : Type 0
-Tables = List (List ℕ × PlainTable)
-
-tables2_are : entries tables2 ≡ (codes "c", tab2) ∷ (codes "t", tab) ∷ []
-tables2_are = entries-insert nat_list_cmp_total tables (codes "c") tab2 ∙ ap (λ (es : Tables). put bytes_cmp (codes "c") tab2 es) tables_are
-
-tables3_are : entries tables3 ≡ (codes "c", tab2) ∷ (codes "t", disabled) ∷ []
-tables3_are = entries-insert nat_list_cmp_total tables2 (codes "t") disabled ∙ ap (λ (es : Tables). put bytes_cmp (codes "t") disabled es) tables2_are
-
-abbrev split_of : Tables → List RegionKey
-split_of es = flat_map (λ (x : List ℕ × PlainTable). split_keys x.1) es
-
 pub disable_allowed : (ttl : ℕ) → Allows disable (w1 ttl)
 disable_allowed ttl = record {
   activity = tt;
   limits = tt;
   unreferenced = [];
-  are_unreferenced = none_unreferenced (live_of (w1 ttl).disk) (w1 ttl).plain plain_names (ap split_of tables2_are);
+  are_unreferenced = tt;
   holds = refl;
   free = refl;
   files = no_files;
@@ -228,7 +202,7 @@ drop_allowed ttl = record {
   activity = tt;
   limits = tt;
   unreferenced = [];
-  are_unreferenced = none_unreferenced (live_of (x1 ttl).disk) (x1 ttl).plain plain_names (ap split_of tables3_are);
+  are_unreferenced = tt;
   holds = refl;
   free = refl;
   files = no_files;

@@ -29,7 +29,6 @@ use Rattle.core_model.specs.declared.step.Step.TheVariants as step
 use Rattle.cell_sight.specs.Member.{Member}
 use Rattle.core_model.specs.Actors.{InSet, HasHold}
 use Rattle.core_model.specs.Allows.{Allows}
-use Rattle.core_model.specs.Disk.{live_of}
 use Rattle.core_model.specs.Entries.{IsBase, region_list}
 use Rattle.core_model.specs.FileGuards.{next_name}
 use Rattle.core_model.specs.ListGuards.{FitsFamily, HasNoDouble}
@@ -40,9 +39,9 @@ use Rattle.core_model.specs.State.{Parts, no_plan}
 use Rattle.core_sound.proofs.Tests.{cond_cases, both_left, both_right, same_bytes-true}
 use Rattle.core_met.proofs.Begin.{info, key, key_is, who}
 use Rattle.core_met.proofs.Lawful.{table_lawful, region_lawful, family_lawful}
-use Rattle.core_met.proofs.Starts.{none_unreferenced, no_new_files}
+use Rattle.core_met.proofs.Starts.{no_new_files}
 use Rattle.core_met_loads.specs.Loaded.{cell_of, empty_file}
-use Rattle.core_met_loads.proofs.Tabled.{tab, tables, table_is, none_split, in_set, b0}
+use Rattle.core_met_loads.proofs.Tabled.{tab, tables, table_is, in_set, b0}
 use Rattle.core_met_loads.proofs.Waiting.{second_family}
 
 abbrev pub loader : Actor
@@ -156,7 +155,7 @@ load_allowed ttl = record {
   activity = tt;
   limits = tt;
   unreferenced = [];
-  are_unreferenced = none_unreferenced (live_of (b0 ttl).disk) (b0 ttl).plain (λ b f e. absurd (cc)) none_split;
+  are_unreferenced = tt;
   holds = refl;
   free = refl;
   files = no_files;

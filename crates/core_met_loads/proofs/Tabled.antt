@@ -1,7 +1,6 @@
 -- A table of two families and one region in that store.
 use Rattle.std.proofs.Common.{◌≡◌, ℕ, true, false, List, [], ◌∷◌, Option, Some, None, refl, sym, ap, ◌∙◌, inl, arith}
 use Rattle.std.specs.Prelude.{codes, unwrap_or, is_some}
-use Rattle.std.specs.List.{flat_map}
 use Rattle.std.specs.FinMap.{get, empty, entries, insert, put, get-empty, entries-insert}
 use Rattle.std.specs.Cmp.Lexicographic.{nat_list_cmp_total}
 use Rattle.hb_cell.specs.Order.{bytes_cmp}
@@ -22,17 +21,15 @@ use Rattle.core_model.specs.declared.step.Step.{Step}
 use Rattle.core_model.specs.declared.step.Step.TheVariants as step
 use Rattle.core_model.specs.Actors.{IsRegion}
 use Rattle.core_model.specs.Allows.{Allows}
-use Rattle.core_model.specs.Disk.{live_of}
 use Rattle.core_model.specs.Entries.{no_list}
 use Rattle.core_model.specs.FileChanges.{set_number}
 use Rattle.core_model.specs.Replay.{after}
-use Rattle.core_model.specs.StartGuards.{split_keys, by_new, by_drawn, by_set, by_directory, live_file, archived_file, list_file, back_file}
+use Rattle.core_model.specs.StartGuards.{by_new, by_drawn, by_set, by_directory, live_file, archived_file, list_file, back_file}
 use Rattle.core_model.specs.State.{Parts}
 use Rattle.core_sound.proofs.TablesKept.{put_this}
 use Rattle.core_met.proofs.Begin.{info, key, key_is, name1, first_name, who, maker, no_tables, no_entries, no_region, not_two, made}
 use Rattle.core_met.proofs.Flush.{flat}
 use Rattle.core_met.proofs.Lawful.{family_lawful}
-use Rattle.core_met.proofs.Starts.{none_unreferenced}
 use Rattle.core_met_loads.proofs.Waiting.{waiting, second_family}
 
 abbrev pub schema : TableSchema
@@ -75,9 +72,6 @@ table_is = put_this no_tables (codes "t") tab
 tables_are : entries tables ≡ (codes "t", tab) ∷ []
 tables_are = entries-insert nat_list_cmp_total no_tables (codes "t") tab ∙ ap (λ (es : List (List ℕ × PlainTable)). put bytes_cmp (codes "t") tab es) no_entries
 
-pub none_split : flat_map (λ (x : List ℕ × PlainTable). split_keys x.1) (entries tables) ≡ []
-none_split = ap (λ es. flat_map (λ (x : List ℕ × PlainTable). split_keys x.1) es) tables_are
-
 pub in_set : IsRegion tables key
 in_set = inl (record { table = tab; stands = table_is; info = info; listed = inl refl; key = key_is })
 
@@ -98,7 +92,7 @@ create_allowed ttl = record {
   activity = tt;
   limits = ((omega arith), (omega arith), (omega arith));
   unreferenced = [];
-  are_unreferenced = none_unreferenced (live_of (waiting ttl).disk) (waiting ttl).plain (λ b f e. absurd (cc)) (ap (λ es. flat_map (λ (x : List ℕ × PlainTable). split_keys x.1) es) no_entries);
+  are_unreferenced = tt;
   holds = refl;
   free = refl;
   files = no_files;

@@ -39,7 +39,6 @@ use Rattle.core_model.specs.declared.step.Step.TheVariants as step
 use Rattle.cell_sight.specs.Member.{Member}
 use Rattle.core_model.specs.Actors.{IsRegion, HasHold}
 use Rattle.core_model.specs.Allows.{Allows}
-use Rattle.core_model.specs.Disk.{live_of}
 use Rattle.core_model.specs.Entries.{IsKey, is_half, no_list, region_list}
 use Rattle.core_model.specs.FileChanges.{set_number}
 use Rattle.core_model.specs.FileGuards.{next_name}
@@ -52,10 +51,10 @@ use Rattle.region_set.specs.RegionSet.{IsRegionSet}
 use Rattle.core_sound.proofs.Tests.{cond_cases, both_left, same_base-true}
 use Rattle.core_sound.proofs.TablesKept.{put_this}
 use Rattle.core_met.proofs.Begin.{info, key, key_is, schema, set, tab, who, not_two}
-use Rattle.core_met.proofs.Flush.{base, tables, table_is, none_split, list}
+use Rattle.core_met.proofs.Flush.{base, tables, table_is, list}
 use Rattle.core_met.proofs.Lawful.{base_lawful}
-use Rattle.core_met.proofs.Shot.{u0, plain_name}
-use Rattle.core_met.proofs.Starts.{no_cons, none_unreferenced}
+use Rattle.core_met.proofs.Shot.{u0}
+use Rattle.core_met.proofs.Starts.{no_cons}
 use Rattle.core_met_splits.specs.Halved.{row}
 
 -- ---- the two regions
@@ -329,7 +328,7 @@ split_allowed ttl = record {
   activity = tt;
   limits = tt;
   unreferenced = [];
-  are_unreferenced = none_unreferenced (live_of (u0 ttl).disk) (u0 ttl).plain plain_name none_split;
+  are_unreferenced = tt;
   holds = ap (λ (r : RegionKey). holds.Region r ∷ []) (sym key_is) ∙ sym (ap (λ (o : Option RegionInfo). map holds.Region (option_to_list (option_map key_of o))) row_region);
   free = refl;
   files = no_files;

@@ -123,6 +123,11 @@ pub record AreUnreferenced (live : Bases) (p : Plain) (regions : List RegionKey)
   pub exact : (r : RegionKey) → (is_old r ≡ false) ↔ IsReferredTo live r
   pub filtered : regions ≡ filter is_old (all_split_keys p)
 
+-- the regions that a Janitor clears; no other job's holds ask for them
+abbrev pub AreToClear : Job → Bases → Plain → List RegionKey → Type 0
+AreToClear jobs.Janitor live p regions = AreUnreferenced live p regions
+AreToClear _ live p regions = Unit {0}
+
 -- a Clean's moment, and no other's
 abbrev pub needs_moment : Job → Bool
 needs_moment jobs.Clean = true
@@ -169,7 +174,7 @@ pub record CanStart (job : Job) (answer : Started) (drawn : Drawn) (s : Parts) :
   pub activity : IsActivity job
   pub limits : IsWithinLimits job
   pub unreferenced : List RegionKey
-  pub are_unreferenced : AreUnreferenced (live_of s.disk) s.plain unreferenced
+  pub are_unreferenced : AreToClear job (live_of s.disk) s.plain unreferenced
   pub holds : drawn.holds ≡ holds_of unreferenced s.plain job
   -- no live actor has a hold in conflict
   pub free : held_by s.plain.live drawn.holds ≡ None

@@ -16,6 +16,7 @@ use hb_records::RegionInfo;
 use hb_wire::{Blob, Copied, Items, NoMemory};
 use plain_cells::lists::joined;
 use plain_model::{Hold, Job, Live, Reply};
+use plain_tables::new_tables::{are_splits, repeated};
 use plain_tables::regions::{is_open, region_of};
 use plain_tables::snapshots::{names, snapshot_at};
 use plain_tables::tables::table_at;
@@ -85,33 +86,6 @@ fn put_refusal(
             Ok(Some(Reply::UnknownFamily(family.copy()?)))
         }
     }
-}
-
-/// The first name that stands before it too.
-fn repeated(families: &[FamilyName]) -> Option<&FamilyName>
-    ensures { option_copied result ≡ repeated families.now }
-{
-    for i in 0..families.len() {
-        let family = &families[i];
-        if families[..i].contains(family) {
-            return Some(family);
-        }
-    }
-    None
-}
-
-/// Whether rows strictly ascend, each of at least a byte.
-fn are_splits(alloc: Global, rows: &[Blob]) -> Result<bool, NoMemory>
-    ensures { IfOk result (λ yes. yes ≡ are_splits rows.now) }
-{
-    let mut last = Blob::from_vec(Vec::new(alloc));
-    for row in rows {
-        if !(last < *row) {
-            return Ok(false);
-        }
-        last = row.copy()?;
-    }
-    Ok(true)
 }
 
 /// Why a table can't be made.

@@ -2,6 +2,7 @@
 #![tactic(auto)]
 
 pub mod keys;
+pub mod new_tables;
 pub mod regions;
 pub mod snapshots;
 pub mod tables;

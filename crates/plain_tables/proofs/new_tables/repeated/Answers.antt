@@ -1,6 +1,6 @@
 use Rattle.std.proofs.Common.{◌∙◌, sym}
-use Rattle.plain_machine.proofs.Repeats.{repeats_here, repeats_behind}
-use Rattle.plain_machine.proofs.replies.repeated.Goals as goal
+use Rattle.plain_tables.proofs.Repeats.{repeats_here, repeats_behind}
+use Rattle.plain_tables.proofs.new_tables.repeated.Goals as goal
 
 pub returns-then-contains : goal.returns-then-contains
 returns-then-contains c = repeats_here c.args.families.now c.loop-i.i c.index-families-i.result c.loop-i-test.true c.index-families-i.is c.loop-i.invariant (sym c.contains.ensures.value ∙ c.if-contains.true)
