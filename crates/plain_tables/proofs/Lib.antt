@@ -1,3 +1,4 @@
 pub mod Walks
+mod Repeats
 pub mod ByName
 pub mod Entries
