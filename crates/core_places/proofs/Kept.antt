@@ -10,7 +10,7 @@ use Rattle.hb_cell.specs.Order.{bytes_cmp}
 use Rattle.ns_tree.specs.declared.file.FileState.{FileState}
 use Rattle.ns_tree.specs.Step.{with_moment}
 use Rattle.reserved_map.specs.Keys.{bytes_cmp-exact}
-use Rattle.core_model.specs.Disk.{Disk, Op, Nothing, Create, Rename, Remove, Touch, Publish, Withdraw, disk_after, is_regular, same_site}
+use Rattle.core_model.specs.Disk.{Disk, Op, Nothing, Create, Rename, Remove, Touch, Publish, Withdraw, is_regular, same_site}
 use Rattle.core_model.specs.Site.{Site, site_text}
 use Rattle.core_sites.specs.Shows.{HasSite, IsSpelledSite, StandsAt}
 use Rattle.core_sites.proofs.Regular.{regular_apart, spelled_regular}

@@ -1,2 +1,4 @@
+pub mod First
 pub mod Kept
+pub mod Region
 mod Shown

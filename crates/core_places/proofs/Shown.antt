@@ -4,7 +4,6 @@ use Rattle.std.specs.Prelude.{is_some}
 use Rattle.std.specs.FinMap.{contains_key, get}
 use Rattle.ns_tree.specs.Tree.{Tree}
 use Rattle.core_model.specs.Disk.{Disk}
-use Rattle.core_model.specs.Site.{site_text}
 use Rattle.core_sites.specs.Shows.{HasSite, Shows}
 use Rattle.core_sites.proofs.Regular.{spelled_regular}
 use Rattle.core_sites.proofs.Shown.{shown}

@@ -1,5 +1,5 @@
 -- Which places have files, beside what stands where.
-use Rattle.std.specs.Prelude.{◌≡◌, ℕ, Bool, true, false, List, Option, Some, None, is_some, option_map}
+use Rattle.std.specs.Prelude.{◌≡◌, ℕ, true, false, List, Option, Some, None, is_some, option_map}
 use Rattle.std.specs.FinMap.{FinMap, contains_key, insert, remove}
 use Rattle.hb_cell.specs.Order.{bytes_cmp}
 use Rattle.core_model.specs.Disk.{Disk, Op, Create, Rename, Remove, Publish, Withdraw, is_regular}

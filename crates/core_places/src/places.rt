@@ -24,13 +24,6 @@ pub fn ready_places(
     }
 }
 
-/// Gives the memory back that was taken for a change that was not made.
-pub fn release_places(places: &mut ReservedMap<Place, ()>, change: &PlaceChange)
-    ensures { filled bytes_cmp places.new ≡ filled bytes_cmp places.old }
-{
-    release_at(places, &change.made);
-}
-
 /// Makes a change of the places. It takes no memory.
 pub fn places_after(places: &mut ReservedMap<Place, ()>, change: &PlaceChange)
     requires { IfSome change.now.made (λ place. is_reserved bytes_cmp places.old place ≡ true) }

@@ -1,4 +1,5 @@
 pub mod First
+pub mod Least
 pub mod Valued
 pub mod Values
 pub mod Writes

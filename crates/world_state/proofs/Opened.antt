@@ -25,35 +25,37 @@ use Rattle.world_state.specs.declared.state.CoreState.{CoreState}
 use Rattle.world_state.specs.Works.{IsWork, live_in}
 use Rattle.world_state.proofs.Files.{both_ways, total}
 
-abbrev in_pairs : List (List ℕ) → List (List ℕ × Unit {0})
-in_pairs ps = map (λ (p : List ℕ). (p, tt)) ps
+abbrev in_pairs : {X : Type 0} → X → List (List ℕ) → List (List ℕ × X)
+in_pairs x ps = map (λ (p : List ℕ). (p, x)) ps
 
-pair_found : (q : List ℕ) (ps : List (List ℕ)) → is_some (find bytes_cmp q (in_pairs ps)) ≡ true → Member q ps
-pair_found q [] h = absurd (cc)
-pair_found q (p ∷ ps) h = by (eq_by_cmp bytes_cmp q p) refl h (pair_found q ps)
-  where
-    by : (b : Bool) → eq_by_cmp bytes_cmp q p ≡ b → is_some (cond b (Some tt) (find bytes_cmp q (in_pairs ps))) ≡ true → (is_some (find bytes_cmp q (in_pairs ps)) ≡ true → Member q ps) → Member q (p ∷ ps)
-    by true e i k = inl (sym (bytes_cmp-exact q p ((Equal-is (bytes_cmp q p)).0 e)))
-    by false e i k = inr (k i)
+module _ {X : Type 0} (x : X) where
+  pair_found : (q : List ℕ) (ps : List (List ℕ)) → is_some (find bytes_cmp q (in_pairs x ps)) ≡ true → Member q ps
+  pair_found q [] h = absurd (cc)
+  pair_found q (p ∷ ps) h = by (eq_by_cmp bytes_cmp q p) refl h (pair_found q ps)
+    where
+      by : (b : Bool) → eq_by_cmp bytes_cmp q p ≡ b → is_some (cond b (Some x) (find bytes_cmp q (in_pairs x ps))) ≡ true → (is_some (find bytes_cmp q (in_pairs x ps)) ≡ true → Member q ps) → Member q (p ∷ ps)
+      by true e i k = inl (sym (bytes_cmp-exact q p ((Equal-is (bytes_cmp q p)).0 e)))
+      by false e i k = inr (k i)
 
-or_else : (b : Bool) (o : Option (Unit {0})) → is_some o ≡ true → is_some (cond b (Some tt) o) ≡ true
-or_else true o h = refl
-or_else false o h = h
+  or_else : (b : Bool) (o : Option X) → is_some o ≡ true → is_some (cond b (Some x) o) ≡ true
+  or_else true o h = refl
+  or_else false o h = h
 
-found_pair : (q : List ℕ) (ps : List (List ℕ)) → Member q ps → is_some (find bytes_cmp q (in_pairs ps)) ≡ true
-found_pair q [] m = absurd m
-found_pair q (p ∷ ps) (inl e) = ap (λ b. is_some (cond b (Some tt) (find bytes_cmp q (in_pairs ps)))) (ap (eq_by_cmp bytes_cmp q) e ∙ ap is_eq (tied_itself total q))
-found_pair q (p ∷ ps) (inr m) = or_else (eq_by_cmp bytes_cmp q p) (find bytes_cmp q (in_pairs ps)) (found_pair q ps m)
+  found_pair : (q : List ℕ) (ps : List (List ℕ)) → Member q ps → is_some (find bytes_cmp q (in_pairs x ps)) ≡ true
+  found_pair q [] m = absurd m
+  found_pair q (p ∷ ps) (inl e) = ap (λ b. is_some (cond b (Some x) (find bytes_cmp q (in_pairs x ps)))) (ap (eq_by_cmp bytes_cmp q) e ∙ ap is_eq (tied_itself total q))
+  found_pair q (p ∷ ps) (inr m) = or_else (eq_by_cmp bytes_cmp q p) (find bytes_cmp q (in_pairs x ps)) (found_pair q ps m)
 
-placed : (q : List ℕ) (ps : List (List ℕ)) → (contains_key (places_in ps) q ≡ true) ↔ Member q ps
-placed q ps = (λ e. pair_found q ps (sym (ap is_some (get-from_entries total (in_pairs ps) q)) ∙ e), λ m. ap is_some (get-from_entries total (in_pairs ps) q) ∙ found_pair q ps m)
+  -- the keys of a map with one value at all of some keys are these
+  pub placed : (q : List ℕ) (ps : List (List ℕ)) → (contains_key {R = bytes_cmp} (from_entries (in_pairs x ps)) q ≡ true) ↔ Member q ps
+  placed q ps = (λ e. pair_found q ps (sym (ap is_some (get-from_entries total (in_pairs x ps) q)) ∙ e), λ m. ap is_some (get-from_entries total (in_pairs x ps) q) ∙ found_pair q ps m)
 
 pub found_places : (o : Opening) (f : Found) → HasFound o f → ArePlaces (places_in f.places) (disk_of (tree_of o))
 found_places o f h = record {
-  sites = λ place e. h.sites place ((placed place f.places).0 e);
+  sites = λ place e. h.sites place ((placed tt place f.places).0 e);
   at = λ q r. both_ways _ _
-      (λ e. ap is_some (shown (tree_of o) q r) ∙ (h.places (site_text q)).1 ((placed (site_text q) f.places).0 e))
-      (λ e. (placed (site_text q) f.places).1 ((h.places (site_text q)).0 (sym (ap is_some (shown (tree_of o) q r)) ∙ e)));
+      (λ e. ap is_some (shown (tree_of o) q r) ∙ (h.places (site_text q)).1 ((placed tt (site_text q) f.places).0 e))
+      (λ e. (placed tt (site_text q) f.places).1 ((h.places (site_text q)).0 (sym (ap is_some (shown (tree_of o) q r)) ∙ e)));
   regular = λ q r. ap (λ b. cond b (get (tree_of o) (site_text q)) None) r;
 }
 

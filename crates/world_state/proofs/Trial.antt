@@ -1,9 +1,9 @@
 -- A core over nothing, and its first entry.
 use Rattle.std.proofs.Common.{◌≡◌, ℕ, ◌+◌, ◌<◌, Bool, true, false, List, [], length, Option, Some, None, refl, sym, ap, subst, ◌∙◌, inl, arith}
 use Rattle.std.specs.Prelude.{is_some, unwrap_or}
-use Rattle.std.specs.FinMap.{contains_key, from_entries, get-from_entries}
-use Rattle.std.proofs.lemmas.Bool.{true≢false}
+use Rattle.std.specs.FinMap.{contains_key}
 use Rattle.cell_sight.specs.Member.{Member}
+use Rattle.ns_tree.specs.declared.file.FileState.{FileState}
 use Rattle.ns_tree.specs.Tree.{Tree}
 use Rattle.plain_model.specs.declared.who.Who.{Who}
 use Rattle.core_model.specs.declared.found.Found.{Found}
@@ -14,22 +14,25 @@ use Rattle.core_model.specs.Allows.{AllowsEntry}
 use Rattle.core_model.specs.Opened.{blank}
 use Rattle.core_model.specs.Replay.{begun, replay}
 use Rattle.core_model.specs.State.{State}
+use Rattle.core_sites.specs.Shows.{HasSite}
 use Rattle.world_state.specs.Held.{Held, state_of}
 use Rattle.world_state.specs.Opened.{HasFound, tree_of}
-use Rattle.world_state.proofs.Files.{total}
 use Rattle.world_state.proofs.Journaled.{entry_of}
+use Rattle.world_state.proofs.Opened.{placed}
 use Rattle.world_state.proofs.Replay.{replayed-none}
 
-no_place : (place : List ℕ) → contains_key (blank []) place ≡ false
-no_place place = ap is_some (get-from_entries total [] place)
-
-pub nothing_found : (o : Opening) (f : Found) → o.found ≡ f → o.tree ≡ None → f.places ≡ [] → HasFound o f
-nothing_found o f same untold none =
-    let tree : tree_of o ≡ blank [] = ap (λ (t : Option Tree). unwrap_or t (blank o.found.places)) untold ∙ ap blank (ap (λ (x : Found). x.places) same ∙ none) in
+-- what an opening found at places of sites, where the store tells nothing
+pub all_found : (o : Opening) (f : Found) → o.found ≡ f → o.tree ≡ None → ((place : List ℕ) → Member place f.places → HasSite place) → HasFound o f
+all_found o f same untold sites =
+    let tree : tree_of o ≡ blank f.places = ap (λ (t : Option Tree). unwrap_or t (blank o.found.places)) untold ∙ ap (λ (x : Found). blank x.places) same in
+    let file : FileState = record { bytes = []; moment = 0 } in
     record {
       same = same;
-      places = λ place. (λ e. absurd (true≢false (sym e ∙ ap (λ (t : Tree). contains_key t place) tree ∙ no_place place)), λ m. absurd (subst (Member place) none m));
-      sites = λ place m. absurd (subst (Member place) none m);
+      places = λ place. (
+        λ e. (placed file place f.places).0 (ap (λ (t : Tree). contains_key t place) (sym tree) ∙ e),
+        λ m. ap (λ (t : Tree). contains_key t place) tree ∙ (placed file place f.places).1 m,
+      );
+      sites = sites;
     }
 
 listed : (o : Opening) (who : Who) → AllowsEntry 0 (entry_of who.worker (step.ListSnapshots who) false) (begun o)

@@ -8,6 +8,7 @@ ghost use Rattle.core_model.specs.Allows.{AllowsEntry};
 ghost use Rattle.core_model.specs.Disk.{is_regular};
 ghost use Rattle.core_model.specs.FileChanges.{set_number};
 ghost use Rattle.core_model.specs.Site.{Site, Tmp, site_text};
+ghost use Rattle.core_model.specs.StartGuards.{StandsBelow};
 ghost use Rattle.plain_model.specs.LiveEvents.{live_of};
 ghost use Rattle.core_places.specs.Served.{IsServed};
 ghost use Rattle.world_state.specs.Held.{parts_of, state_of};
@@ -206,6 +207,13 @@ impl Core {
         ensures { (q : Site) → is_regular q ≡ true → site_text q ≡ place.now → result ≡ is_some ((parts_of self.now).disk q) }
     {
         self.state.places.contains_key(place)
+    }
+
+    /// Whether a file stands below one of a region's directories, under the data or in the archive.
+    pub fn stands_below(&self, region: &RegionKey) -> Result<bool, NoMemory>
+        ensures { IfOk result (λ stands. (stands ≡ true) ↔ StandsBelow (parts_of self.now).disk region.now) }
+    {
+        core_places::stands_below(self.alloc, &self.state.places, region)
     }
 
     /// Whether the name of a region was drawn.
