@@ -1,0 +1,15 @@
+mod Journals
+mod Agree
+mod Kept
+mod Refused
+mod Served
+mod Facts
+mod Stopped
+mod Least
+mod NamesTaken
+mod Tables
+mod NamesAlike
+mod Sounds
+mod Judged
+mod Started
+mod Bare

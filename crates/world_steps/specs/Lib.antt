@@ -1,0 +1,5 @@
+pub mod World
+pub mod Causes
+pub mod Writing
+pub mod Commits
+pub mod Starts
