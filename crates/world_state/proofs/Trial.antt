@@ -1,6 +1,6 @@
 -- A core over nothing, and its first entry.
-use Rattle.std.proofs.Common.{◌≡◌, ℕ, ◌+◌, ◌<◌, Bool, true, false, List, [], length, Option, Some, None, refl, sym, ap, subst, ◌∙◌, inl, arith}
-use Rattle.std.specs.Prelude.{is_some, unwrap_or}
+use Rattle.std.proofs.Common.{◌≡◌, ℕ, false, List, [], length, Option, None, refl, sym, ap, subst, ◌∙◌, inl, arith}
+use Rattle.std.specs.Prelude.{unwrap_or}
 use Rattle.std.specs.FinMap.{contains_key}
 use Rattle.cell_sight.specs.Member.{Member}
 use Rattle.ns_tree.specs.declared.file.FileState.{FileState}
@@ -13,7 +13,6 @@ use Rattle.core_model.specs.declared.step.Step.TheVariants as step
 use Rattle.core_model.specs.Allows.{AllowsEntry}
 use Rattle.core_model.specs.Opened.{blank}
 use Rattle.core_model.specs.Replay.{begun, replay}
-use Rattle.core_model.specs.State.{State}
 use Rattle.core_sites.specs.Shows.{HasSite}
 use Rattle.world_state.specs.Held.{Held, state_of}
 use Rattle.world_state.specs.Opened.{HasFound, tree_of}

@@ -1,4 +1,3 @@
-use Rattle.std.proofs.Common.{ap, sym, subst}
 use Rattle.world_state.proofs.Trial.{all_found}
 use Rattle.world_state.proofs.tests.core_over.Goals as goal
 
