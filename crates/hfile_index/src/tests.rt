@@ -1,4 +1,5 @@
 use super::*;
+use hb_wire::{Blob, Items, NoMemory, put_u64};
 use std::alloc::Global;
 use std::test::Fail;
 
@@ -110,5 +111,95 @@ fn reads_nodes(rt: HostRuntime) -> Result<(), Fail> {
     for len in 0..LEAF.len() {
         assert!(rt; node(rt.alloc(), &LEAF[..len]) == None);
     }
+    Ok(())
+}
+
+/// An entry of the block with this number, each of 58 bytes, whose first cell has the number for its row.
+fn entry(alloc: Global, block: u64) -> Result<IndexEntry, NoMemory> {
+    let mut key = Blob::copy_of(alloc, b"\0\x08")?;
+    put_u64(&mut key, block)?;
+    key.add(b"\x01fq\0\0\0\0\0\0\0\x05\x04")?;
+    Ok(IndexEntry {
+        offset: block.wrapping_mul(58),
+        size: 58,
+        key,
+    })
+}
+
+/// The index of so many such entries.
+fn index_of(alloc: Global, blocks: u64) -> Result<WrittenIndex, NoMemory> {
+    let mut builder = IndexBuilder::new(alloc);
+    for block in 0..blocks {
+        let entry = entry(alloc, block)?;
+        if entry.key.len() <= MAX_KEY {
+            builder.add(entry)?;
+        }
+    }
+    builder.finish()
+}
+
+/// What the nodes of a level tell.
+fn told_nodes(alloc: Global, nodes: &Items<Blob>) -> Result<Vec<Option<Told>>, NoMemory> {
+    let mut told = Vec::new(alloc);
+    for content in nodes.as_slice() {
+        told.push(node(alloc, content.as_slice()))?;
+    }
+    Ok(told)
+}
+
+/// Whether the last bytes are these.
+fn ends_with(bytes: &[u8], tail: &[u8]) -> bool {
+    bytes.len() >= tail.len() && &bytes[bytes.len() - tail.len()..] == tail
+}
+
+#[test]
+fn builds_roots(rt: HostRuntime) -> Result<(), Fail> {
+    let none = index_of(rt.alloc(), 0)?;
+    assert!(rt; none.root.is_empty() && none.leaves.is_empty() && none.levels == 1);
+    let full = index_of(rt.alloc(), 128)?;
+    assert!(rt; full.leaves.is_empty() && full.intermediates.is_empty());
+    assert!(rt; full.count == 128 && full.levels == 1);
+    assert!(rt; root(rt.alloc(), full.root.as_slice(), 128) == Some((128, 127 * 58, 58, 22)));
+    Ok(())
+}
+
+#[test]
+fn builds_two_levels(rt: HostRuntime) -> Result<(), Fail> {
+    let index = index_of(rt.alloc(), 129)?;
+    let leaves = told_nodes(rt.alloc(), &index.leaves)?;
+    assert!(rt;
+        leaves.as_slice() == [Some((128, 127 * 58, 58, 22)), Some((1, 128 * 58, 58, 22))].as_slice()
+    );
+    assert!(rt; index.intermediates.is_empty() && index.count == 2 && index.levels == 2);
+    // The first leaf has 4 + 4 * 129 + 128 * 34 bytes, and 33 of its header.
+    assert!(rt; root(rt.alloc(), index.root.as_slice(), 2) == Some((2, 129 * 58 + 4905, 79, 22)));
+    // The middle one is the block 64, the 65th of the first leaf.
+    assert!(rt;
+        ends_with(
+            index.root.as_slice(),
+            b"\0\0\0\0\0\0\x1d\x3a\0\0\x13\x29\0\0\0\x40"
+        )
+    );
+    Ok(())
+}
+
+#[test]
+fn builds_three_levels(rt: HostRuntime) -> Result<(), Fail> {
+    let index = index_of(rt.alloc(), 128 * 128 + 1)?;
+    assert!(rt; index.leaves.len() == 129 && index.intermediates.len() == 2);
+    assert!(rt; index.count == 2 && index.levels == 3);
+    let above = told_nodes(rt.alloc(), &index.intermediates)?;
+    let leaf_129 = (128 * 128 + 1) * 58 + 128 * 4905;
+    assert!(rt;
+        above.as_slice()
+            == [
+                Some((128, leaf_129 - 4905, 4905, 22)),
+                Some((1, leaf_129, 79, 22))
+            ]
+            .as_slice()
+    );
+    assert!(rt;
+        root(rt.alloc(), index.root.as_slice(), 2) == Some((2, leaf_129 + 79 + 4905, 79, 22))
+    );
     Ok(())
 }
