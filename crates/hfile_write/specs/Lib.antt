@@ -1,0 +1,5 @@
+pub mod Blocks
+pub mod Ended
+pub mod Summary
+pub mod Written
+pub mod Answers
